@@ -1,0 +1,3 @@
+-- A step's tests, the first that fails, and what a promise settles.
+pub mod Tests
+pub mod Settled

@@ -1,0 +1,20 @@
+use Prim.Native.Nat.{_+_}
+use mathlib.Core.Path.{ap}
+use lib.Dec.{leb}
+use Rattle.senders.specs.MaskLaws.{ones-size}
+use borrow.Author.Needs.{needs}
+use Rattle.senders.proofs.is_enough.Statement.{statement}
+use Rattle.senders.proofs.is_enough.Tie as tie
+use Rattle.senders.proofs.is_enough.Reads as reads
+use Rattle.senders.proofs.is_enough.Lts as lts
+
+-- src/lib.rt:45:5
+add-result : tie.Need-add-result
+add-result c = search needs
+
+-- src/lib.rt:42:1
+returns : tie.Need-returns
+returns c = ap (leb (c .args .f + 1)) (ones-size (c .args .mask) (c .fits .mask .fits))
+
+pub is-enough-spec : {M : Type 1} → statement M
+is-enough-spec = tie.close (tie.spec add-result returns)

@@ -1,0 +1,5 @@
+-- Sets of senders: as tests on numbers (Sets), and as the masks that a program holds (Masks, with the laws in MaskLaws).
+pub mod Sets
+pub mod Masks
+pub mod Bits
+pub mod MaskLaws

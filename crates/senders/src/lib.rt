@@ -1,0 +1,46 @@
+// Sets of senders. A set is a mask of 16 bits: bit i is sender i.
+ghost use Prim.Native.Nat.{_+_};
+ghost use mathlib.Core.Path.{_≡_};
+ghost use lib.Dec.{leb};
+ghost use Rattle.senders.specs.Masks.{isIn, size, joined, without};
+
+// Whether a sender is in a set. Nobody from 16 on is.
+pub fn is_in(mask: u16, sender: u8) -> bool
+    ensures { λ out. ⌜ out ≡ isIn mask sender ⌝ }
+{
+    if 16 <= sender {
+        return false;
+    }
+    (mask >> sender) % 2 == 1
+}
+
+// The set with a sender joined to it. Nobody from 16 on can join.
+pub fn join(mask: u16, sender: u8) -> u16
+    ensures { λ out. ⌜ out ≡ joined mask sender ⌝ }
+{
+    if 16 <= sender {
+        return mask;
+    }
+    mask | (1u16 << sender)
+}
+
+// The set with a sender forgotten.
+pub fn forget(mask: u16, sender: u8) -> u16
+    ensures { λ out. ⌜ out ≡ without mask sender ⌝ }
+{
+    if 16 <= sender {
+        return mask;
+    }
+    if is_in(mask, sender) {
+        mask ^ (1u16 << sender)
+    } else {
+        mask
+    }
+}
+
+// Whether a set has at least f + 1 members.
+pub fn is_enough(mask: u16, f: u8) -> bool
+    ensures { λ out. ⌜ out ≡ leb (f + 1) (size mask) ⌝ }
+{
+    f as u32 + 1 <= u16::count_ones(mask)
+}

@@ -1,0 +1,26 @@
+-- "A stamp T is fresh at clock t when t−2 ≤ T ≤ t+2."
+use Prim.Native.Nat.{ℕ, _+_, _-_}
+use mathlib.Core.Path.{_≡_, refl, ap}
+use mathlib.Core.Bool.{Bool, true, false, _&&_}
+use native.Mathlib.Omega.{arith}
+use lib.Dec.{leb}
+use borrow.Author.Tests.{le-leb, lt-leb, leb-true, leb-false}
+use Rattle.time.specs.declared.Dts.{Dts}
+
+-- how far from the clock a fresh stamp may be, either way
+abbrev pub window : ℕ
+window = 2
+
+abbrev pub freshAt : ℕ → ℕ → Bool
+freshAt T t = leb (t - window) T && leb T (t + window)
+
+abbrev pub fresh : Dts → Dts → Bool
+fresh T t = freshAt (T .0) (t .0)
+
+-- the same with sums alone
+pub fresh-sums : (T t : ℕ) → freshAt T t ≡ (leb t (T + window) && leb T (t + window))
+fresh-sums T t = ap (λ (b : Bool). b && leb T (t + window)) (go (leb t (T + window)) refl)
+  where
+    go : (b : Bool) → leb t (T + window) ≡ b → leb (t - window) T ≡ b
+    go true e = le-leb (t - window) T (omega (arith, leb-true))
+    go false e = lt-leb (t - window) T (omega (arith, leb-false))

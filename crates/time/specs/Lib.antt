@@ -1,0 +1,5 @@
+-- Time: discretising, freshness, and the order of a relay's state numbers.
+pub mod Discretising
+pub mod Fresh
+pub mod Neighbours
+pub mod Newer

@@ -1,0 +1,78 @@
+// Clock readings in microseconds, discretised time stamps (DTS), and what is asked of them.
+ghost use mathlib.Core.Path.{_≡_};
+ghost use Rattle.time.specs.Discretising.{discretised, defaultInterval};
+ghost use Rattle.time.specs.Fresh.{fresh};
+ghost use Rattle.time.specs.Newer.{newer};
+
+// A clock reading, or an interval, in microseconds.
+pub struct Micros(pub u64);
+
+// A discretised time stamp.
+pub struct Dts(pub u32);
+
+pub const SHORTEST_INTERVAL: u64 = 1000;
+
+pub const LONGEST_INTERVAL: u64 = 10000;
+
+pub const DEFAULT_INTERVAL: u64 = 2000;
+
+// The largest stamp that discretising gives.
+pub const LAST_STAMP: u64 = 1000000000;
+
+pub struct Discretised {
+    pub refusal: u8,
+    pub stamp: Dts,
+}
+
+pub fn discretise(reading: Micros, interval: Micros) -> Discretised
+    ensures { λ out. ⌜ out ≡ discretised reading interval ⌝ }
+{
+    let width = interval.0;
+    if width < SHORTEST_INTERVAL {
+        return Discretised {
+            refusal: 1,
+            stamp: Dts(0),
+        };
+    }
+    if LONGEST_INTERVAL < width {
+        return Discretised {
+            refusal: 1,
+            stamp: Dts(0),
+        };
+    }
+    let stamp = reading.0 / width;
+    if LAST_STAMP < stamp {
+        return Discretised {
+            refusal: 15,
+            stamp: Dts(0),
+        };
+    }
+    Discretised {
+        refusal: 0,
+        stamp: Dts(stamp as u32),
+    }
+}
+
+// For whoever names no interval.
+pub fn discretise_by_default(reading: Micros) -> Discretised
+    ensures { λ out. ⌜ out ≡ discretised reading defaultInterval ⌝ }
+{
+    discretise(reading, Micros(DEFAULT_INTERVAL))
+}
+
+// Whether a stamp is fresh at a clock.
+pub fn is_fresh(stamp: Dts, clock: Dts) -> bool
+    ensures { λ out. ⌜ out ≡ fresh stamp clock ⌝ }
+{
+    let s = stamp.0 as u64;
+    let t = clock.0 as u64;
+    (t <= s + 2) & (s <= t + 2)
+}
+
+// Whether a relay's state number is new after the last one.
+pub fn is_newer(number: u32, last: u32) -> bool
+    ensures { λ out. ⌜ out ≡ newer number last ⌝ }
+{
+    let ahead = std::num::wrapping_sub_u32(number, last);
+    (1 <= ahead) & (ahead <= 2147483647)
+}
