@@ -31,6 +31,9 @@ discretisingTests reading interval =
     ∷ []
 
 -- "A refused discretising gives stamp 0"
+abbrev pub refused : ℕ → Discretised
+refused number = record { refusal = number; stamp = record { 0 = 0 } }
+
 unfoldable pub discretised : Micros → Micros → Discretised
 discretised reading interval =
     record {

@@ -1,6 +1,6 @@
 // Clock readings in microseconds, discretised time stamps (DTS), and what is asked of them.
 ghost use mathlib.Core.Path.{_≡_};
-ghost use Rattle.time.specs.Discretising.{discretised, defaultInterval};
+ghost use Rattle.time.specs.Discretising.{refused, discretised, defaultInterval};
 ghost use Rattle.time.specs.Fresh.{fresh};
 ghost use Rattle.time.specs.Newer.{newer};
 
@@ -24,28 +24,28 @@ pub struct Discretised {
     pub stamp: Dts,
 }
 
+fn refused(number: u8) -> Discretised
+    ensures { λ out. ⌜ out ≡ refused number ⌝ }
+{
+    Discretised {
+        refusal: number,
+        stamp: Dts(0),
+    }
+}
+
 pub fn discretise(reading: Micros, interval: Micros) -> Discretised
     ensures { λ out. ⌜ out ≡ discretised reading interval ⌝ }
 {
     let width = interval.0;
     if width < SHORTEST_INTERVAL {
-        return Discretised {
-            refusal: 1,
-            stamp: Dts(0),
-        };
+        return refused(1);
     }
     if LONGEST_INTERVAL < width {
-        return Discretised {
-            refusal: 1,
-            stamp: Dts(0),
-        };
+        return refused(1);
     }
     let stamp = reading.0 / width;
     if LAST_STAMP < stamp {
-        return Discretised {
-            refusal: 15,
-            stamp: Dts(0),
-        };
+        return refused(15);
     }
     Discretised {
         refusal: 0,

@@ -1,0 +1,7 @@
+-- The share store: what it is (Store, over Places), what it holds and how that changes (Held), the earliest stamp held from enough senders
+pub mod Store
+pub mod Places
+pub mod Held
+pub mod Earliest
+pub mod EarliestLaws
+pub mod Own

@@ -1,0 +1,2 @@
+-- Lists that a rule makes.
+pub mod Tables
