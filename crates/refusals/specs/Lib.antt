@@ -1,3 +1,4 @@
 -- A step's tests, the first that fails, and what a promise settles.
+pub mod Bools
 pub mod Tests
 pub mod Settled

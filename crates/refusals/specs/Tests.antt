@@ -1,10 +1,12 @@
 -- The tests of a step are a list in document 01's order, each with the number that 01 gives where it fails.
 -- The refusal is the number of the first that fails, and 0, done, where none does.
 use Prim.Native.Nat.{ℕ, _<_}
-use mathlib.Core.Path.{_≡_, refl}
+use mathlib.Core.Path.{_≡_, refl, sym, ap}
 use mathlib.Core.Bool.{Bool, true, false, _&&_, cond, false≢true}
-use mathlib.Core.List.{List, [], _∷_}
+use mathlib.Core.List.{List, [], _∷_, _++_}
 use native.Mathlib.Omega.{arith}
+use lib.Dec.{eqb}
+use borrow.Author.Tests.{ne-eqb}
 
 -- a number, and whether the test beside it is passed
 abbrev pub Test : Type 0
@@ -18,6 +20,10 @@ refusal (t ∷ ts) = cond (t .1) (refusal ts) (t .0)
 abbrev pub passed : List Test → Bool
 passed [] = true
 passed (t ∷ ts) = t .1 && passed ts
+
+-- the refusal of some tests, with others after them
+abbrev pub orElse : ℕ → ℕ → ℕ
+orElse earlier later = cond (eqb earlier 0) later earlier
 
 -- no test has the number 0, which means done
 abbrev pub Numbered : List Test → Type 0
@@ -39,6 +45,18 @@ done-passed (t ∷ ts) n e = go (t .1) e (done-passed ts (n .1))
     go : (b : Bool) → cond b (refusal ts) (t .0) ≡ 0 → (refusal ts ≡ 0 → passed ts ≡ true) → (b && passed ts) ≡ true
     go true e ih = ih e
     go false e ih = absurd (none (n .0) e)
+      where
+        none : 0 < t .0 → t .0 ≡ 0 → ⊥
+        none h e = omega arith
+
+pub refusal-append : (ts us : List Test) → Numbered ts → refusal (ts ++ us) ≡ orElse (refusal ts) (refusal us)
+refusal-append [] us n = refl
+refusal-append (t ∷ ts) us n = go (t .1) (refusal-append ts us (n .1))
+  where
+    go : (b : Bool) → refusal (ts ++ us) ≡ orElse (refusal ts) (refusal us)
+        → cond b (refusal (ts ++ us)) (t .0) ≡ orElse (cond b (refusal ts) (t .0)) (refusal us)
+    go true ih = ih
+    go false ih = sym (ap (λ (b : Bool). cond b (refusal us) (t .0)) (ne-eqb (t .0) 0 (none (n .0))))
       where
         none : 0 < t .0 → t .0 ≡ 0 → ⊥
         none h e = omega arith

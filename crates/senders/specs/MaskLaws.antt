@@ -2,7 +2,7 @@
 use Prim.Native.Nat.{ℕ, zero, suc, _+_, _*_, _/_, _%_, _^_, max, _≤_, _<_}
 use mathlib.Core.Path.{_≡_, refl, sym, ap, ap₂, _∙_}
 use mathlib.Core.Bool.{Bool, true, false, not, _&&_, _||_, cond}
-use native.Mathlib.Nat.{not-suc-le-zero, le-of-suc-le-suc, zero-add, zero-div, div-one, mod-lt, div-eq-of-lt, lt-of-lt-of-le}
+use native.Mathlib.Nat.{not-suc-le-zero, le-of-suc-le-suc, zero-add, zero-div, div-one, mod-lt, div-eq-of-lt, lt-of-lt-of-le, zero-max}
 use native.Mathlib.Numerals.{one-add, add-one}
 use native.Mathlib.Omega.{arith}
 use lib.Arith.{lt-one}
@@ -12,7 +12,7 @@ use lib.Dec.{eqb, leb, ltb, lit<}
 use lib.Pow.{pow-lt, pow-mono, shr-lt, shr-shr}
 use borrow.Author.Tests.{eq-eqb, eqb-true, eqb-false, ne-eqb, lt-ltb, le-ltb, ltb-true, ltb-false}
 use Rattle.senders.specs.Sets.{count, tally, both, count-ext, count-low, count-joined, count-above, outside}
-use Rattle.senders.specs.Masks.{room, isIn, size, joined, without}
+use Rattle.senders.specs.Masks.{room, isIn, size, joined, without, together}
 use Rattle.senders.specs.Bits.{bit, bit-lt, bit-or, bit-xor, own-bit, other-bit}
 
 -- ---- the count of ones is the size of the set
@@ -68,6 +68,18 @@ in-or mask i j = go (eqb j i) refl
     go false e =
         ap (λ (x : ℕ). eqb x 1)
         (bit-or mask (2 ^ i) j ∙ ap (λ (x : ℕ). max (bit mask j) x) (other-bit i j (eqb-false j i e)) ∙ low (bit mask j))
+
+-- Who is in two sets together: whoever is in one of them.
+pub in-together : (a b i : ℕ) → isIn (together a b) i ≡ (isIn a i || isIn b i)
+unfolding isIn together
+in-together a b i = ap (λ (x : ℕ). eqb x 1) (bit-or a b i) ∙ either (bit a i) (bit b i) (bit-lt a i) (bit-lt b i)
+  where
+    either : (x y : ℕ) → x < 2 → y < 2 → eqb (max x y) 1 ≡ (eqb x 1 || eqb y 1)
+    either zero y h k = ap (λ (z : ℕ). eqb z 1) (zero-max y)
+    either (suc zero) zero h k = refl
+    either (suc zero) (suc zero) h k = refl
+    either (suc zero) (suc (suc y)) h k = absurd (not-suc-le-zero (le-of-suc-le-suc (le-of-suc-le-suc k)))
+    either (suc (suc x)) y h k = absurd (not-suc-le-zero (le-of-suc-le-suc (le-of-suc-le-suc h)))
 
 -- Who is in the set with i joined: i, where there is room for it, and whoever was in it.
 pub in-joined : (mask i j : ℕ) → isIn (joined mask i) j ≡ (ltb i room && eqb j i || isIn mask j)

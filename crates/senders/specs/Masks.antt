@@ -24,3 +24,11 @@ joined mask i = cond (ltb i room) (bitOr mask (2 ^ i)) mask
 -- the set without sender i
 unfoldable pub without : ℕ → ℕ → ℕ
 without mask i = cond (isIn mask i) (bitXor mask (2 ^ i)) mask
+
+-- the senders of either set
+unfoldable pub together : ℕ → ℕ → ℕ
+together mask others = bitOr mask others
+
+-- no bit from n on is 1: every sender in the set is below n
+unfoldable pub within : ℕ → ℕ → Bool
+within mask n = ltb mask (2 ^ n)

@@ -2,7 +2,7 @@
 ghost use Prim.Native.Nat.{_+_};
 ghost use mathlib.Core.Path.{_≡_};
 ghost use lib.Dec.{leb};
-ghost use Rattle.senders.specs.Masks.{isIn, size, joined, without};
+ghost use Rattle.senders.specs.Masks.{isIn, size, joined, without, together, within};
 
 // Whether a sender is in a set. Nobody from 16 on is.
 pub fn is_in(mask: u16, sender: u8) -> bool
@@ -43,4 +43,28 @@ pub fn is_enough(mask: u16, f: u8) -> bool
     ensures { λ out. ⌜ out ≡ leb (f + 1) (size mask) ⌝ }
 {
     f as u32 + 1 <= u16::count_ones(mask)
+}
+
+// How many members a set has.
+pub fn how_many(mask: u16) -> u32
+    ensures { λ out. ⌜ out ≡ size mask ⌝ }
+{
+    u16::count_ones(mask)
+}
+
+// The members of either of two sets.
+pub fn join_all(mask: u16, others: u16) -> u16
+    ensures { λ out. ⌜ out ≡ together mask others ⌝ }
+{
+    mask | others
+}
+
+// Whether every member of a set is below n.
+pub fn is_within(mask: u16, n: u32) -> bool
+    ensures { λ out. ⌜ out ≡ within mask n ⌝ }
+{
+    if 16 <= n {
+        return true;
+    }
+    mask >> n == 0
 }

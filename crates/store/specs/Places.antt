@@ -2,19 +2,21 @@
 use Prim.Native.Nat.{ℕ, _+_, _*_, _-_, _%_, _≤_, _<_}
 use mathlib.Core.Path.{_≡_, refl, sym, ap, ap₂, _∙_}
 use mathlib.Core.Bool.{Bool, true, false, _&&_, cond, and-eq-true-iff}
-use mathlib.Core.List.{List}
+use mathlib.Core.List.{List, [], _∷_}
 use native.Mathlib.Omega.{arith}
 use lib.Dec.{eqb, leb, ltb}
 use lib.ListN.{length, set}
 use borrow.Author.Tests.{eq-eqb, ne-eqb, eqb-true, eqb-false, ltb-true, leb-true}
+use Rattle.refusals.specs.Bools.{and-assoc, and-true}
 use Rattle.time.specs.declared.Dts.{Dts}
 use Rattle.time.specs.Fresh.{fresh, freshAt, window}
-use Rattle.senders.specs.Masks.{joined}
+use Rattle.senders.specs.Masks.{joined, together, within}
+use Rattle.senders.specs.Within.{together-within}
 use Rattle.tables.specs.Tables.{table, set-table}
 use Rattle.store.specs.declared.Store.{Store}
 use Rattle.store.specs.declared.Place.{Place}
 use Rattle.store.specs.declared.Place.the-variants.{At, Nowhere}
-use Rattle.store.specs.Store.{actions, stamps, places, hasPlace, place, placeOf, setAt, put}
+use Rattle.store.specs.Store.{actions, stamps, places, hasPlace, place, placeOf, setAt, put, allWithin}
 
 pub record Bounds (clock : Dts) (action : ℕ) (T : Dts) : Type 0 where
   pub action-fits : action < actions
@@ -88,3 +90,11 @@ put-is s sender a T k e p =
     simp (f .0, f .1)
     (ap (λ (l : List ℕ). record { clock = s .clock; masks = l })
     (set-table places (s .masks) k (joined (setAt s k) sender) 0 e (found-lt (s .clock) a T k p)))
+
+-- ---- senders below n
+
+-- the sets at the ten places, together, are within n where each is
+pub all-together : (n a b c d e a' b' c' d' e' : ℕ)
+    → within (together (together (together (together (together a b) c) d) e) (together (together (together (together a' b') c') d') e')) n
+    ≡ allWithin (a ∷ b ∷ c ∷ d ∷ e ∷ a' ∷ b' ∷ c' ∷ d' ∷ e' ∷ []) n
+all-together n a b c d e a' b' c' d' e' = simp (together-within, and-assoc, and-true)

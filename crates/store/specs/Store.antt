@@ -1,13 +1,13 @@
 -- "Share store: for each action and each fresh stamp, the set of senders whose share has been delivered". Which place of the array is whose is
 -- said here and nowhere else: the layers above go by what is held (Held).
 use Prim.Native.Nat.{ℕ, _+_, _*_, _-_, _%_, _/_}
-use mathlib.Core.Bool.{Bool, _&&_, cond}
-use mathlib.Core.List.{List}
+use mathlib.Core.Bool.{Bool, true, _&&_, cond}
+use mathlib.Core.List.{List, [], _∷_}
 use lib.Dec.{eqb, leb, ltb}
 use lib.ListN.{getD}
 use Rattle.time.specs.declared.Dts.{Dts}
 use Rattle.time.specs.Fresh.{fresh, window}
-use Rattle.senders.specs.Masks.{joined}
+use Rattle.senders.specs.Masks.{joined, within}
 use Rattle.tables.specs.Tables.{table}
 use Rattle.store.specs.declared.Store.{Store}
 use Rattle.store.specs.declared.Place.{Place}
@@ -61,3 +61,11 @@ movedTo s clock =
     cond (leb (clock .0) (s .clock .0))
     s
     (record { clock = clock; masks = table places (movedFrom s (clock .0 - s .clock .0)) })
+
+-- every sender at every place is below n
+abbrev pub allWithin : List ℕ → ℕ → Bool
+allWithin [] n = true
+allWithin (mask ∷ masks) n = within mask n && allWithin masks n
+
+unfoldable pub storeWithin : Store → ℕ → Bool
+storeWithin s n = allWithin (table places (setAt s)) n

@@ -3,7 +3,7 @@
 use time::Dts;
 ghost use Prim.Native.Nat.{_+_, _*_, _-_, _<_};
 ghost use mathlib.Core.Path.{_≡_};
-ghost use Rattle.store.specs.Store.{placeOf, empty, put, movedFrom, movedTo, sendersOf};
+ghost use Rattle.store.specs.Store.{placeOf, empty, put, movedFrom, movedTo, sendersOf, storeWithin};
 ghost use Rattle.store.specs.Earliest.{freshStamp, qualifies, earliest};
 
 pub struct Store {
@@ -148,5 +148,15 @@ impl Store {
             i += 1;
         }
         Earliest::Nothing
+    }
+
+    // Whether every sender that the store holds, at whatever place, is below n.
+    pub fn is_within(self, n: u32) -> bool
+        ensures { λ out. ⌜ out ≡ storeWithin self n ⌝ }
+    {
+        let m = self.masks;
+        let low = m[0] | m[1] | m[2] | m[3] | m[4];
+        let high = m[5] | m[6] | m[7] | m[8] | m[9];
+        senders::is_within(low | high, n)
     }
 }

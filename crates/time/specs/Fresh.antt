@@ -1,12 +1,14 @@
--- "A stamp T is fresh at clock t when t−2 ≤ T ≤ t+2."
-use Prim.Native.Nat.{ℕ, _+_, _-_}
+-- Fresh stamps, and the stamp after one.
+use Prim.Native.Nat.{ℕ, _+_, _-_, _%_, _^_, _<_}
 use mathlib.Core.Path.{_≡_, refl, ap}
 use mathlib.Core.Bool.{Bool, true, false, _&&_}
+use native.Mathlib.Nat.{mod-eq-of-lt}
 use native.Mathlib.Omega.{arith}
 use lib.Dec.{leb}
 use borrow.Author.Tests.{le-leb, lt-leb, leb-true, leb-false}
 use Rattle.time.specs.declared.Dts.{Dts}
 
+-- "A stamp T is fresh at clock t when t−2 ≤ T ≤ t+2."
 -- how far from the clock a fresh stamp may be, either way
 abbrev pub window : ℕ
 window = 2
@@ -24,3 +26,11 @@ fresh-sums T t = ap (λ (b : Bool). b && leb T (t + window)) (go (leb t (T + win
     go : (b : Bool) → leb t (T + window) ≡ b → leb (t - window) T ≡ b
     go true e = le-leb (t - window) T (omega (arith, leb-true))
     go false e = lt-leb (t - window) T (omega (arith, leb-false))
+
+-- t + 1, in 32 bits
+unfoldable pub next : Dts → Dts
+next t = record { 0 = (t .0 + 1) % 2 ^ 32 }
+
+pub next-is : (t : Dts) → t .0 + 1 < 2 ^ 32 → next t .0 ≡ t .0 + 1
+unfolding next
+next-is t h = mod-eq-of-lt h

@@ -1,7 +1,7 @@
 // Clock readings in microseconds, discretised time stamps (DTS), and what is asked of them.
 ghost use mathlib.Core.Path.{_≡_};
 ghost use Rattle.time.specs.Discretising.{refused, discretised, defaultInterval};
-ghost use Rattle.time.specs.Fresh.{fresh};
+ghost use Rattle.time.specs.Fresh.{fresh, next};
 ghost use Rattle.time.specs.Newer.{newer};
 
 // A clock reading, or an interval, in microseconds.
@@ -18,6 +18,9 @@ pub const DEFAULT_INTERVAL: u64 = 2000;
 
 // The largest stamp that discretising gives.
 pub const LAST_STAMP: u64 = 1000000000;
+
+// The largest stamp or clock that a site or a node can come to hold.
+pub const LAST_HELD: u32 = 1000000003;
 
 pub struct Discretised {
     pub refusal: u8,
@@ -67,6 +70,13 @@ pub fn is_fresh(stamp: Dts, clock: Dts) -> bool
     let s = stamp.0 as u64;
     let t = clock.0 as u64;
     (t <= s + 2) & (s <= t + 2)
+}
+
+// The stamp after one: stamps have 32 bits and wrap, which no step of a site comes near.
+pub fn next(stamp: Dts) -> Dts
+    ensures { λ out. ⌜ out ≡ next stamp ⌝ }
+{
+    Dts(std::num::wrapping_add_u32(stamp.0, 1))
 }
 
 // Whether a relay's state number is new after the last one.

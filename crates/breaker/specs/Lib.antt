@@ -1,0 +1,2 @@
+-- The breaker and its changes.
+pub mod Breaker

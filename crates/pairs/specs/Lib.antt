@@ -1,0 +1,2 @@
+-- Statuses with their stamps.
+pub mod Pair

@@ -1,0 +1,16 @@
+use borrow.Author.Tests.{eq-eqb, ne-eqb}
+use Rattle.refusals.proofs.first.Statement.{statement}
+use Rattle.refusals.proofs.first.Tie as tie
+use Rattle.refusals.proofs.first.Reads as reads
+use Rattle.refusals.proofs.first.Lts as lts
+
+-- src/lib.rt:18:1
+returns : tie.Need-returns
+returns c = simp (eq-eqb _ _ (c .if1 .taken))
+
+-- src/lib.rt:18:1
+returns-2 : tie.Need-returns-2
+returns-2 c = simp (ne-eqb _ _ (c .if1 .left))
+
+pub first-spec : {M : Type 1} → statement M
+first-spec = tie.close (tie.spec returns returns-2)

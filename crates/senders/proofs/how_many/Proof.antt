@@ -1,0 +1,12 @@
+use Rattle.senders.specs.MaskLaws.{ones-size}
+use Rattle.senders.proofs.how_many.Statement.{statement}
+use Rattle.senders.proofs.how_many.Tie as tie
+use Rattle.senders.proofs.how_many.Reads as reads
+use Rattle.senders.proofs.how_many.Lts as lts
+
+-- src/lib.rt:49:1
+returns : tie.Need-returns
+returns c = ones-size (c .args .mask) (c .fits .mask .fits)
+
+pub how-many-spec : {M : Type 1} → statement M
+how-many-spec = tie.close (tie.spec returns)
