@@ -2,35 +2,40 @@
 -- The refusal is the number of the first that fails, and 0, done, where none does.
 use Prim.Native.Nat.{ℕ, _<_}
 use mathlib.Core.Path.{_≡_, refl, sym, ap}
-use mathlib.Core.Bool.{Bool, true, false, _&&_, cond, false≢true}
+use mathlib.Core.Bool.{Bool, true, false, _&&_, cond, false≢true, and-eq-true-iff}
 use mathlib.Core.List.{List, [], _∷_, _++_}
 use native.Mathlib.Omega.{arith}
-use lib.Dec.{eqb}
-use borrow.Author.Tests.{ne-eqb}
+use lib.Dec.{eqb, ltb}
+use borrow.Author.Tests.{ne-eqb, ltb-true}
 
 -- a number, and whether the test beside it is passed
 abbrev pub Test : Type 0
 Test = ℕ × Bool
 
-abbrev pub refusal : List Test → ℕ
+unfoldable pub refusal : List Test → ℕ
 refusal [] = 0
 refusal (t ∷ ts) = cond (t .1) (refusal ts) (t .0)
 
 -- every test is passed
-abbrev pub passed : List Test → Bool
+unfoldable pub passed : List Test → Bool
 passed [] = true
 passed (t ∷ ts) = t .1 && passed ts
 
 -- the refusal of some tests, with others after them
-abbrev pub orElse : ℕ → ℕ → ℕ
+unfoldable pub orElse : ℕ → ℕ → ℕ
 orElse earlier later = cond (eqb earlier 0) later earlier
 
 -- no test has the number 0, which means done
-abbrev pub Numbered : List Test → Type 0
-Numbered [] = Unit {0}
-Numbered (t ∷ ts) = (0 < t .0) × Numbered ts
+abbrev pub numbered : List Test → Bool
+numbered [] = true
+numbered (t ∷ ts) = ltb 0 (t .0) && numbered ts
 
+not-zero : (k : ℕ) → ltb 0 k ≡ true → k ≡ 0 → ⊥
+not-zero k h e = omega (arith, ltb-true 0 k h)
+
+-- Every test is passed exactly where the refusal is 0.
 pub passed-done : (ts : List Test) → passed ts ≡ true → refusal ts ≡ 0
+unfolding refusal passed
 passed-done [] e = refl
 passed-done (t ∷ ts) e = go (t .1) e (passed-done ts)
   where
@@ -38,25 +43,28 @@ passed-done (t ∷ ts) e = go (t .1) e (passed-done ts)
     go true e ih = ih e
     go false e ih = absurd (false≢true e)
 
-pub done-passed : (ts : List Test) → Numbered ts → refusal ts ≡ 0 → passed ts ≡ true
+pub done-passed : (ts : List Test) → numbered ts ≡ true → refusal ts ≡ 0 → passed ts ≡ true
+unfolding refusal passed
 done-passed [] n e = refl
-done-passed (t ∷ ts) n e = go (t .1) e (done-passed ts (n .1))
+done-passed (t ∷ ts) n e = go (t .1) e (done-passed ts (and-eq-true-iff (ltb 0 (t .0)) (numbered ts) .0 n .1))
   where
     go : (b : Bool) → cond b (refusal ts) (t .0) ≡ 0 → (refusal ts ≡ 0 → passed ts ≡ true) → (b && passed ts) ≡ true
     go true e ih = ih e
-    go false e ih = absurd (none (n .0) e)
-      where
-        none : 0 < t .0 → t .0 ≡ 0 → ⊥
-        none h e = omega arith
+    go false e ih = absurd (not-zero (t .0) (and-eq-true-iff (ltb 0 (t .0)) (numbered ts) .0 n .0) e)
 
-pub refusal-append : (ts us : List Test) → Numbered ts → refusal (ts ++ us) ≡ orElse (refusal ts) (refusal us)
-refusal-append [] us n = refl
-refusal-append (t ∷ ts) us n = go (t .1) (refusal-append ts us (n .1))
+-- Two lists of tests, one after the other.
+pub appended : (ts us : List Test) → numbered ts ≡ true → orElse (refusal ts) (refusal us) ≡ refusal (ts ++ us)
+unfolding refusal orElse
+appended [] us n = refl
+appended (t ∷ ts) us n = go (t .1) (appended ts us (and-eq-true-iff (ltb 0 (t .0)) (numbered ts) .0 n .1))
   where
-    go : (b : Bool) → refusal (ts ++ us) ≡ orElse (refusal ts) (refusal us)
-        → cond b (refusal (ts ++ us)) (t .0) ≡ orElse (cond b (refusal ts) (t .0)) (refusal us)
+    go : (b : Bool) → orElse (refusal ts) (refusal us) ≡ refusal (ts ++ us)
+        → orElse (cond b (refusal ts) (t .0)) (refusal us) ≡ cond b (refusal (ts ++ us)) (t .0)
     go true ih = ih
-    go false ih = sym (ap (λ (b : Bool). cond b (refusal us) (t .0)) (ne-eqb (t .0) 0 (none (n .0))))
-      where
-        none : 0 < t .0 → t .0 ≡ 0 → ⊥
-        none h e = omega arith
+    go false ih = ap (λ (b : Bool). cond b (refusal us) (t .0)) (ne-eqb (t .0) 0 (not-zero (t .0) (and-eq-true-iff (ltb 0 (t .0)) (numbered ts) .0 n .0)))
+
+-- Two tests with one number are one test.
+pub one-number : (number : ℕ) (a b : Bool) (ts : List Test) → refusal ((number, a) ∷ (number, b) ∷ ts) ≡ refusal ((number, a && b) ∷ ts)
+unfolding refusal
+one-number number true b ts = refl
+one-number number false b ts = refl

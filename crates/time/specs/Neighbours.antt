@@ -42,13 +42,14 @@ and-left false b e = absurd (false≢true e)
 
 all-passed : (reading interval : Micros) → Accepted reading interval → passed (discretisingTests reading interval) ≡ true
 unfolding discretised
-all-passed reading interval e = done-passed (discretisingTests reading interval) (lit< tt, (lit< tt, tt)) e
+all-passed reading interval e = done-passed (discretisingTests reading interval) refl e
 
 accepted-stamp : (reading interval : Micros) → Accepted reading interval → stampOf reading interval ≡ wholePart reading interval
 unfolding discretised
 accepted-stamp reading interval e = simp (all-passed reading interval e)
 
 accepted-interval : (reading interval : Micros) → Accepted reading interval → 0 < interval .0
+unfolding passed
 accepted-interval reading interval e =
     let short : leb shortestInterval (interval .0) ≡ true = and-left _ _ (and-left _ _ (all-passed reading interval e)) in
     omega (arith, leb-true shortestInterval (interval .0) short)

@@ -1,3 +1,4 @@
+use Rattle.refusals.specs.Tests.{refusal, passed}
 use borrow.Author.Tests.{lt-leb, le-leb}
 use Rattle.time.specs.Discretising.{discretised}
 use borrow.Author.Needs.{needs}
@@ -13,7 +14,7 @@ refused-requires c κs = search needs
 
 -- src/lib.rt:41:9
 returns : tie.Need-returns
-unfolding discretised
+unfolding discretised refusal passed
 returns c = simp (c .refused .ensures, lt-leb _ _ (c .before .if1 .taken))
 
 -- src/lib.rt:44:9
@@ -22,7 +23,7 @@ refused-requires-2 c κs = search needs
 
 -- src/lib.rt:44:9
 returns-2 : tie.Need-returns-2
-unfolding discretised
+unfolding discretised refusal passed
 returns-2 c = simp (c .refused2 .ensures, le-leb _ _ (c .before .before .if1 .left), lt-leb _ _ (c .before .if2 .taken))
 
 -- src/lib.rt:46:17
@@ -35,7 +36,7 @@ refused-requires-3 c κs = search needs
 
 -- src/lib.rt:48:9
 returns-3 : tie.Need-returns-3
-unfolding discretised
+unfolding discretised refusal passed
 returns-3 c = simp (c .refused3 .ensures, le-leb _ _ (c .before .before .before .before .if1 .left), le-leb _ _ (c .before .before .before .if2 .left), lt-leb _ _ (c .before .if3 .taken))
 
 -- src/lib.rt:52:20
@@ -44,7 +45,7 @@ cast-t6 c = search needs
 
 -- src/lib.rt:36:1
 returns-4 : tie.Need-returns-4
-unfolding discretised
+unfolding discretised refusal passed
 returns-4 c = simp (le-leb _ _ (c .before .before .before .if1 .left), le-leb _ _ (c .before .before .if2 .left), le-leb _ _ (c .if3 .left))
 
 pub discretise-spec : {M : Type 1} → statement M

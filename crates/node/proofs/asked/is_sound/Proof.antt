@@ -1,0 +1,71 @@
+use mathlib.Core.Bool.{and-true, and-assoc}
+use Rattle.node.specs.Asked.{nodeSound}
+use borrow.Author.Needs.{needs}
+use Rattle.node.proofs.asked.is_sound.Statement.{statement}
+use Rattle.node.proofs.asked.is_sound.Tie as tie
+use Rattle.node.proofs.asked.is_sound.Reads as reads
+use Rattle.node.proofs.asked.is_sound.Lts as lts
+use Rattle.node.proofs.asked.is_known_sound.Reads as is-known-sound-reads
+use Rattle.node.proofs.asked.is_record_sound.Reads as is-record-sound-reads
+use Rattle.store.proofs.Store.is_within.Reads as is-within-reads
+
+-- src/asked.rt:154:9
+is-within-requires : tie.Need-is-within-requires
+is-within-requires c κs = search needs
+
+-- src/asked.rt:157:24
+enum-told : tie.Need-enum-told
+enum-told c = search needs
+
+-- src/asked.rt:158:25
+enum-known-phase : tie.Need-enum-known-phase
+enum-known-phase c = search needs
+
+-- src/asked.rt:161:17
+is-known-sound-requires : tie.Need-is-known-sound-requires
+is-known-sound-requires c κs = search needs
+
+-- src/asked.rt:162:17
+is-known-sound-requires-2 : tie.Need-is-known-sound-requires-2
+is-known-sound-requires-2 c κs = search needs
+
+-- src/asked.rt:165:24
+enum-known-phase-2 : tie.Need-enum-known-phase-2
+enum-known-phase-2 c = search needs
+
+-- src/asked.rt:166:17
+is-record-sound-requires : tie.Need-is-record-sound-requires
+is-record-sound-requires c κs = search needs
+
+-- src/asked.rt:149:1
+returns : tie.Need-returns
+unfolding nodeSound
+returns c = simp (c .enum-told .given .1, c .before .before .before .is-within .ensures, and-true)
+
+-- src/asked.rt:149:1
+returns-2 : tie.Need-returns-2
+unfolding nodeSound
+returns-2 c =
+    let told = c .before .before .before in
+    simp
+    (told .phase .given .1, told .before .before .before .is-within .ensures, c .before .is-known-sound .ensures, c .is-known-sound2 .ensures, and-assoc)
+
+-- src/asked.rt:149:1
+returns-3 : tie.Need-returns-3
+unfolding nodeSound
+returns-3 c = simp (c .before .before .phase2 .given .1, c .before .before .before .before .before .is-within .ensures, c .is-record-sound .ensures)
+
+pub is-sound-spec : {M : Type 1} → statement M
+is-sound-spec =
+    tie.close
+    (tie.spec
+    is-within-requires
+    enum-told
+    enum-known-phase
+    is-known-sound-requires
+    is-known-sound-requires-2
+    enum-known-phase-2
+    is-record-sound-requires
+    returns
+    returns-2
+    returns-3)

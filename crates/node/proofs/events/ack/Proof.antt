@@ -1,0 +1,68 @@
+use Rattle.node.specs.Events.{acked}
+use borrow.Author.Needs.{needs}
+use Rattle.node.proofs.events.ack.Statement.{statement}
+use Rattle.node.proofs.events.ack.Tie as tie
+use Rattle.node.proofs.events.ack.Reads as reads
+use Rattle.node.proofs.events.ack.Lts as lts
+use Rattle.node.proofs.events.ack_running.Reads as ack-running-reads
+use Rattle.node.proofs.events.begin.Reads as begin-reads
+use Rattle.node.proofs.events.later_than.Reads as later-than-reads
+use Rattle.node.proofs.events.sends_nothing.Reads as sends-nothing-reads
+
+-- src/events.rt:256:24
+enum-told : tie.Need-enum-told
+enum-told c = search needs
+
+-- src/events.rt:256:24
+sends-nothing-requires : tie.Need-sends-nothing-requires
+sends-nothing-requires c κs = search needs
+
+-- src/events.rt:257:25
+enum-known-phase : tie.Need-enum-known-phase
+enum-known-phase c = search needs
+
+-- src/events.rt:261:17
+later-than-requires : tie.Need-later-than-requires
+later-than-requires c κs = search needs
+
+-- src/events.rt:267:13
+begin-requires : tie.Need-begin-requires
+begin-requires c κs = search needs
+
+-- src/events.rt:269:24
+enum-known-phase-2 : tie.Need-enum-known-phase-2
+enum-known-phase-2 c = search needs
+
+-- src/events.rt:269:32
+ack-running-requires : tie.Need-ack-running-requires
+ack-running-requires c κs = search needs
+
+-- src/events.rt:250:1
+returns : tie.Need-returns
+unfolding acked
+returns c = simp (c .before .enum-told .given .1) (c .sends-nothing .ensures)
+
+-- src/events.rt:250:1
+returns-2 : tie.Need-returns-2
+unfolding acked
+returns-2 c = simp (c .before .before .before .phase .given .1, c .begin .ensures, c .before .later-than .ensures)
+
+-- src/events.rt:250:1
+returns-3 : tie.Need-returns-3
+unfolding acked
+returns-3 c = simp (c .before .before .phase2 .given .1) (c .ack-running .ensures)
+
+pub ack-spec : {M : Type 1} → statement M
+ack-spec =
+    tie.close
+    (tie.spec
+    enum-told
+    sends-nothing-requires
+    enum-known-phase
+    later-than-requires
+    begin-requires
+    enum-known-phase-2
+    ack-running-requires
+    returns
+    returns-2
+    returns-3)

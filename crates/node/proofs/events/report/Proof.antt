@@ -1,0 +1,62 @@
+use Rattle.node.specs.Events.{reported}
+use borrow.Author.Needs.{needs}
+use Rattle.node.proofs.events.report.Statement.{statement}
+use Rattle.node.proofs.events.report.Tie as tie
+use Rattle.node.proofs.events.report.Reads as reads
+use Rattle.node.proofs.events.report.Lts as lts
+use Rattle.node.proofs.events.begin.Reads as begin-reads
+use Rattle.node.proofs.events.report_running.Reads as report-running-reads
+use Rattle.node.proofs.events.sends_nothing.Reads as sends-nothing-reads
+
+-- src/events.rt:129:24
+enum-told : tie.Need-enum-told
+enum-told c = search needs
+
+-- src/events.rt:129:24
+sends-nothing-requires : tie.Need-sends-nothing-requires
+sends-nothing-requires c κs = search needs
+
+-- src/events.rt:130:25
+enum-known-phase : tie.Need-enum-known-phase
+enum-known-phase c = search needs
+
+-- src/events.rt:137:13
+begin-requires : tie.Need-begin-requires
+begin-requires c κs = search needs
+
+-- src/events.rt:139:24
+enum-known-phase-2 : tie.Need-enum-known-phase-2
+enum-known-phase-2 c = search needs
+
+-- src/events.rt:139:32
+report-running-requires : tie.Need-report-running-requires
+report-running-requires c κs = search needs
+
+-- src/events.rt:119:1
+returns : tie.Need-returns
+unfolding reported
+returns c = simp (c .before .enum-told .given .1) (c .sends-nothing .ensures)
+
+-- src/events.rt:119:1
+returns-2 : tie.Need-returns-2
+unfolding reported
+returns-2 c = simp (c .before .before .phase .given .1) (c .begin .ensures)
+
+-- src/events.rt:119:1
+returns-3 : tie.Need-returns-3
+unfolding reported
+returns-3 c = simp (c .before .before .phase2 .given .1) (c .report-running .ensures)
+
+pub report-spec : {M : Type 1} → statement M
+report-spec =
+    tie.close
+    (tie.spec
+    enum-told
+    sends-nothing-requires
+    enum-known-phase
+    begin-requires
+    enum-known-phase-2
+    report-running-requires
+    returns
+    returns-2
+    returns-3)

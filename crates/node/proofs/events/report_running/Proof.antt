@@ -1,0 +1,41 @@
+use Rattle.node.specs.Events.{reportRunning}
+use borrow.Author.Needs.{needs}
+use Rattle.node.proofs.events.report_running.Statement.{statement}
+use Rattle.node.proofs.events.report_running.Tie as tie
+use Rattle.node.proofs.events.report_running.Reads as reads
+use Rattle.node.proofs.events.report_running.Lts as lts
+use Rattle.node.proofs.events.keep_resend.Reads as keep-resend-reads
+use Rattle.node.proofs.events.report_shares.Reads as report-shares-reads
+use Rattle.node.proofs.events.running.Reads as running-reads
+use Rattle.store.proofs.Store.move_to.Reads as move-to-reads
+
+-- src/events.rt:103:9
+keep-resend-requires : tie.Need-keep-resend-requires
+keep-resend-requires c κs = search needs
+
+-- src/events.rt:110:9
+report-shares-requires : tie.Need-report-shares-requires
+report-shares-requires c κs = search needs
+
+-- src/events.rt:111:9
+move-to-requires : tie.Need-move-to-requires
+move-to-requires c κs = search needs
+
+-- src/events.rt:113:15
+running-requires : tie.Need-running-requires
+running-requires c κs = search needs
+
+-- src/events.rt:99:1
+returns : tie.Need-returns
+unfolding reportRunning
+returns c = simp (c .running .ensures, c .before .move-to .ensures, c .before .before .report-shares .ensures, c .before .before .before .keep-resend .ensures)
+
+pub report-running-spec : {M : Type 1} → statement M
+report-running-spec =
+    tie.close
+    (tie.spec
+    keep-resend-requires
+    report-shares-requires
+    move-to-requires
+    running-requires
+    returns)

@@ -1,0 +1,34 @@
+use Rattle.node.specs.Events.{reportShares}
+use borrow.Author.Needs.{needs}
+use Rattle.node.proofs.events.report_shares.Statement.{statement}
+use Rattle.node.proofs.events.report_shares.Tie as tie
+use Rattle.node.proofs.events.report_shares.Reads as reads
+use Rattle.node.proofs.events.report_shares.Lts as lts
+use Rattle.node.proofs.asked.is_attempt.Reads as is-attempt-reads
+use Rattle.time.proofs.next.Reads as next-reads
+
+-- src/events.rt:86:9
+is-attempt-requires : tie.Need-is-attempt-requires
+is-attempt-requires c κs = search needs
+
+-- src/events.rt:87:9
+is-attempt-requires-2 : tie.Need-is-attempt-requires-2
+is-attempt-requires-2 c κs = search needs
+
+-- src/events.rt:91:20
+next-requires : tie.Need-next-requires
+next-requires c κs = search needs
+
+-- src/events.rt:83:1
+returns : tie.Need-returns
+unfolding reportShares
+returns c = simp (simp (c .before .before .before .is-attempt .ensures, c .before .before .is-attempt2 .ensures) at (c .before .if1 .taken), c .next .ensures)
+
+-- src/events.rt:83:1
+returns-2 : tie.Need-returns-2
+unfolding reportShares
+returns-2 c = simp (simp (c .before .before .is-attempt .ensures, c .before .is-attempt2 .ensures) at (c .if1 .left))
+
+pub report-shares-spec : {M : Type 1} → statement M
+report-shares-spec =
+    tie.close (tie.spec is-attempt-requires is-attempt-requires-2 next-requires returns returns-2)

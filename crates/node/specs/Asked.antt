@@ -1,0 +1,103 @@
+-- What is asked of a node before an event reaches it.
+use Prim.Native.Nat.{ℕ}
+use mathlib.Core.Bool.{Bool, true, false, not, _&&_, cond}
+use Rattle.time.specs.declared.Dts.{Dts}
+use Rattle.time.specs.Newer.{newer}
+use Rattle.time.specs.Limits.{stampSound}
+use Rattle.store.specs.Store.{storeWithin}
+use Rattle.pairs.specs.declared.Pair.{Pair}
+use Rattle.pairs.specs.declared.Known.{Known}
+use Rattle.pairs.specs.declared.Known.the-variants.{Yes, No}
+use Rattle.node.specs.declared.Last.{Last}
+use Rattle.node.specs.declared.Last.the-variants.{Number, Unknown}
+use Rattle.node.specs.declared.Learned.{Learned}
+use Rattle.node.specs.declared.Resend.{Resend}
+use Rattle.node.specs.declared.Resend.the-variants.{Armed, Off}
+use Rattle.node.specs.declared.Record.{Record}
+use Rattle.node.specs.declared.Phase.{Phase}
+use Rattle.node.specs.declared.Phase.the-variants.{Down, Starting, Running}
+use Rattle.node.specs.declared.Node.{Node}
+use Rattle.node.specs.State.{attempts}
+
+abbrev phaseDown : Phase → Bool
+phaseDown Down = true
+phaseDown (Starting l) = false
+phaseDown (Running rec) = false
+
+abbrev phaseStarting : Phase → Bool
+phaseStarting Down = false
+phaseStarting (Starting l) = true
+phaseStarting (Running rec) = false
+
+abbrev phaseRunning : Phase → Bool
+phaseRunning Down = false
+phaseRunning (Starting l) = false
+phaseRunning (Running rec) = true
+
+abbrev pub isDown : Node → Bool
+isDown node = phaseDown (node .phase)
+
+abbrev pub isStarting : Node → Bool
+isStarting node = phaseStarting (node .phase)
+
+abbrev pub isRunning : Node → Bool
+isRunning node = phaseRunning (node .phase)
+
+-- "a number is new when none is known since start-up, or when number minus last, wrapping at 32 bits, is 1 to 2,147,483,647"
+abbrev pub newAfter : ℕ → Last → Bool
+newAfter number (Number last) = newer number last
+newAfter number Unknown = true
+
+abbrev phaseNumber : Phase → Last
+phaseNumber Down = Unknown
+phaseNumber (Starting l) = l .number
+phaseNumber (Running rec) = rec .number
+
+abbrev pub isNew : Node → ℕ → Bool
+isNew node number = newAfter number (phaseNumber (node .phase))
+
+-- "Share timeout. Armed exactly in Attempt."
+abbrev phaseAttempt : Phase → Bool
+phaseAttempt Down = false
+phaseAttempt (Starting l) = false
+phaseAttempt (Running rec) = attempts (rec .r) (rec .b)
+
+abbrev pub inAttempt : Node → Bool
+inAttempt node = phaseAttempt (node .phase)
+
+-- "Resend timeout. Armed after a command was sent."
+abbrev resendArmed : Resend → Bool
+resendArmed (Armed T) = true
+resendArmed Off = false
+
+abbrev phaseArmed : Phase → Bool
+phaseArmed Down = false
+phaseArmed (Starting l) = false
+phaseArmed (Running rec) = resendArmed (rec .resend)
+
+abbrev pub armed : Node → Bool
+armed node = phaseArmed (node .phase)
+
+-- ---- 16: "a stamp or clock above 1,000,000,003 or a sender not below n"
+
+abbrev pub knownSound : Known → Bool
+knownSound (Yes pair) = stampSound (pair .stamp)
+knownSound No = true
+
+abbrev pub resendSound : Resend → Bool
+resendSound (Armed T) = stampSound T
+resendSound Off = true
+
+abbrev pub learnedSound : Learned → Bool
+learnedSound l = knownSound (l .r) && knownSound (l .b)
+
+abbrev pub recordSound : Record → Bool
+recordSound rec = stampSound (rec .r .stamp) && stampSound (rec .b .stamp) && resendSound (rec .resend)
+
+abbrev phaseSound : Phase → Bool
+phaseSound Down = true
+phaseSound (Starting l) = learnedSound l
+phaseSound (Running rec) = recordSound rec
+
+unfoldable pub nodeSound : Node → ℕ → Bool
+nodeSound node n = stampSound (node .store .clock) && storeWithin (node .store) n && phaseSound (node .phase)

@@ -1,0 +1,170 @@
+// What is asked of a node before an event reaches it.
+use crate::Last;
+use crate::Node;
+use crate::Phase;
+use crate::Record;
+use crate::Resend;
+use pairs::Known;
+use pairs::Pair;
+use time::Dts;
+use time::LAST_HELD;
+ghost use mathlib.Core.Path.{_≡_};
+ghost use Rattle.node.specs.State.{attempts};
+ghost use Rattle.pairs.specs.Pair.{same};
+ghost use Rattle.node.specs.Asked.{isDown, isStarting, isRunning, isNew, newAfter, inAttempt, armed, knownSound, resendSound, recordSound, learnedSound, nodeSound};
+
+// Done: the relay's status is the breaker's.
+pub fn is_done(r: Pair, b: Pair) -> bool
+    ensures { λ out. ⌜ out ≡ same r b ⌝ }
+{
+    r.status == b.status
+}
+
+// Attempt: the statuses differ, and the relay's stamp is no older.
+pub fn is_attempt(r: Pair, b: Pair) -> bool
+    ensures { λ out. ⌜ out ≡ attempts r b ⌝ }
+{
+    (r.status != b.status) & (b.stamp.0 <= r.stamp.0)
+}
+
+pub fn is_down(node: Node) -> bool
+    ensures { λ out. ⌜ out ≡ isDown node ⌝ }
+{
+    let phase = node.phase;
+    match phase {
+        Phase::Down => true,
+        Phase::Starting(_) => false,
+        Phase::Running(_) => false,
+    }
+}
+
+pub fn is_starting(node: Node) -> bool
+    ensures { λ out. ⌜ out ≡ isStarting node ⌝ }
+{
+    let phase = node.phase;
+    match phase {
+        Phase::Down => false,
+        Phase::Starting(_) => true,
+        Phase::Running(_) => false,
+    }
+}
+
+pub fn is_running(node: Node) -> bool
+    ensures { λ out. ⌜ out ≡ isRunning node ⌝ }
+{
+    let phase = node.phase;
+    match phase {
+        Phase::Down => false,
+        Phase::Starting(_) => false,
+        Phase::Running(_) => true,
+    }
+}
+
+fn is_new_after(number: u32, last: Last) -> bool
+    ensures { λ out. ⌜ out ≡ newAfter number last ⌝ }
+{
+    match last {
+        Last::Number(known) => time::is_newer(number, known),
+        Last::Unknown => true,
+    }
+}
+
+// Whether a relay's state number is new to a node.
+pub fn is_new(node: Node, number: u32) -> bool
+    ensures { λ out. ⌜ out ≡ isNew node number ⌝ }
+{
+    let phase = node.phase;
+    match phase {
+        Phase::Down => true,
+        Phase::Starting(learned) => {
+            let last = learned.number;
+            is_new_after(number, last)
+        }
+        Phase::Running(rec) => {
+            let last = rec.number;
+            is_new_after(number, last)
+        }
+    }
+}
+
+// Whether a node runs and is in Attempt: then, and only then, its share timeout is armed.
+pub fn is_in_attempt(node: Node) -> bool
+    ensures { λ out. ⌜ out ≡ inAttempt node ⌝ }
+{
+    let phase = node.phase;
+    match phase {
+        Phase::Down => false,
+        Phase::Starting(_) => false,
+        Phase::Running(rec) => {
+            let r = rec.r;
+            let b = rec.b;
+            is_attempt(r, b)
+        }
+    }
+}
+
+// Whether a node's resend timeout is armed.
+pub fn is_armed(node: Node) -> bool
+    ensures { λ out. ⌜ out ≡ armed node ⌝ }
+{
+    let phase = node.phase;
+    let Phase::Running(rec) = phase else {
+        return false;
+    };
+    let resend = rec.resend;
+    match resend {
+        Resend::Armed(_) => true,
+        Resend::Off => false,
+    }
+}
+
+// ---- no stamp or clock above the last that can be, no sender from n on
+
+fn is_known_sound(known: Known) -> bool
+    ensures { λ out. ⌜ out ≡ knownSound known ⌝ }
+{
+    match known {
+        Known::Yes(pair) => pair.stamp.0 <= LAST_HELD,
+        Known::No => true,
+    }
+}
+
+fn is_resend_sound(resend: Resend) -> bool
+    ensures { λ out. ⌜ out ≡ resendSound resend ⌝ }
+{
+    match resend {
+        Resend::Armed(stamp) => stamp.0 <= LAST_HELD,
+        Resend::Off => true,
+    }
+}
+
+fn is_record_sound(rec: Record) -> bool
+    ensures { λ out. ⌜ out ≡ recordSound rec ⌝ }
+{
+    let resend = rec.resend;
+    let resend_sound = is_resend_sound(resend);
+    (rec.r.stamp.0 <= LAST_HELD) & (rec.b.stamp.0 <= LAST_HELD) & resend_sound
+}
+
+pub fn is_sound(node: Node, n: u32) -> bool
+    ensures { λ out. ⌜ out ≡ nodeSound node n ⌝ }
+{
+    let phase = node.phase;
+    let store = node.store;
+    let places = store.is_within(n);
+    let held = (store.clock.0 <= LAST_HELD) & places;
+    match phase {
+        Phase::Down => held,
+        Phase::Starting(learned) => {
+            let r = learned.r;
+            let b = learned.b;
+            let r_sound = is_known_sound(r);
+            let b_sound = is_known_sound(b);
+            held & r_sound & b_sound
+        }
+        Phase::Running(rec) => {
+            let record_sound = is_record_sound(rec);
+            held & record_sound
+        }
+    }
+}

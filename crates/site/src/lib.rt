@@ -1,0 +1,40 @@
+// The site: the breaker, what is kept of the nodes, and every step. A step takes the site, the number of records that the caller lends and
+// the record of the acting node, all by value, and hands site and record back with its answer.
+pub mod refusing;
+pub mod sound;
+pub mod stepping;
+
+use breaker::Breaker;
+use node::Node;
+use pairs::Known;
+use pairs::Pairs;
+use store::Store;
+
+// The site's clock g is the clock of `made`, the fresh shares that correct nodes have made since Start.
+pub struct Site {
+    pub started: bool,
+    pub f: u8,
+    pub k: u8,
+    pub compromised: u16,
+    pub down: u16,
+    pub breaker: Breaker,
+    pub made: Store,
+}
+
+// What a step sends: shares by rising stamp, then commands, then an ack.
+pub struct Sent {
+    pub shares: Pairs,
+    pub commands: Pairs,
+    pub ack: Known,
+}
+
+pub enum Answer {
+    Done(Sent),
+    Refused(u8),
+}
+
+pub struct Out {
+    pub answer: Answer,
+    pub site: Site,
+    pub node: Node,
+}
