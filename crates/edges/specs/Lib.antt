@@ -1,0 +1,2 @@
+-- The edges marked P.
+pub mod Edges
