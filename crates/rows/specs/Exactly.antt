@@ -1,0 +1,119 @@
+-- Over any list of tests: the refusal is k exactly when the condition of row k is met and that of no row in front of it.
+use Prim.Native.Nat.{ℕ, _≤_, _<_}
+use mathlib.Core.Path.{_≡_, refl}
+use mathlib.Core.Bool.{Bool, true, false, not, _&&_, cond, true≢false, and-eq-true-iff}
+use mathlib.Core.Logic.{_↔_}
+use mathlib.Core.List.{List, [], _∷_}
+use native.Mathlib.Omega.{arith}
+use lib.Dec.{eqb, leb, ltb}
+use borrow.Author.Tests.{eqb-true, eqb-false, leb-true, ltb-true, not-true}
+use Rattle.refusals.specs.Tests.{Test, refusal}
+
+-- a row of a table of refusals: its number, and the condition on which it is given
+abbrev pub Row : Type 1
+Row = ℕ × Type 0
+
+-- the condition of row k; nothing meets that of a row which is not there
+abbrev pub Condition : ℕ → List Row → Type 0
+Condition k [] = ⊥
+Condition k (row ∷ rows) = cond (eqb (row .0) k) (row .1) (Condition k rows)
+
+-- no row in front of row k has its condition met
+abbrev pub NoneBefore : ℕ → List Row → Type 0
+NoneBefore k [] = Unit {0}
+NoneBefore k (row ∷ rows) = cond (eqb (row .0) k) (Unit {0}) ((row .1 → ⊥) × NoneBefore k rows)
+
+-- no row has its condition met
+abbrev pub None : List Row → Type 0
+None [] = Unit {0}
+None (row ∷ rows) = (row .1 → ⊥) × None rows
+
+-- a test tells a condition: it fails exactly when the condition is met
+abbrev pub Tells : Bool → Type 0 → Type 0
+Tells test C = (test ≡ false) ↔ C
+
+-- the tests tell the conditions of the rows, one each and in the same order
+pub data Tell : List Test → List Row → Type 1 where
+  nothing : Tell [] []
+  also : (k : ℕ) {test : Bool} {C : Type 0} {ts : List Test} {rows : List Row} → Tells test C → Tell ts rows
+      → Tell ((k, test) ∷ ts) ((k, C) ∷ rows)
+
+-- every row has a number of its own, which is not 0
+abbrev has : ℕ → List Row → Bool
+has k [] = false
+has k (row ∷ rows) = cond (eqb (row .0) k) true (has k rows)
+
+abbrev pub apart : List Row → Bool
+apart [] = true
+apart (row ∷ rows) = ltb 0 (row .0) && (not (has (row .0) rows) && apart rows)
+
+-- every number is at most m
+abbrev pub upTo : ℕ → List Row → Bool
+upTo m [] = true
+upTo m (row ∷ rows) = leb (row .0) m && upTo m rows
+
+-- what `and` of two tests that are passed says of each
+left : (a b : Bool) → (a && b) ≡ true → a ≡ true
+left a b e = and-eq-true-iff a b .0 e .0
+
+right : (a b : Bool) → (a && b) ≡ true → b ≡ true
+right a b e = and-eq-true-iff a b .0 e .1
+
+-- A number that no row has is never the refusal.
+pub absent : {ts : List Test} {rows : List Row} (k : ℕ) → 0 < k → has k rows ≡ false → Tell ts rows → refusal ts ≡ k → ⊥
+unfolding refusal
+absent k pos h nothing e = omega arith
+absent k pos h (also j {test} {C} {ts} {rows} tells rest) e = go (eqb j k) test refl h e (λ h. absent k pos h rest)
+  where
+    go : (same t : Bool) → eqb j k ≡ same → cond same true (has k rows) ≡ false → cond t (refusal ts) j ≡ k
+        → (has k rows ≡ false → refusal ts ≡ k → ⊥) → ⊥
+    go true t q h e ih = true≢false h
+    go false true q h e ih = ih h e
+    go false false q h e ih = eqb-false j k q e
+
+-- The refusal is k exactly when no row in front of row k has its condition met and row k has.
+pub exactly : {ts : List Test} {rows : List Row} → Tell ts rows → apart rows ≡ true → (k : ℕ) → 0 < k
+    → (refusal ts ≡ k) ↔ (NoneBefore k rows × Condition k rows)
+unfolding refusal
+exactly nothing a k pos = (λ e. omega arith, λ h. absurd (h .1))
+exactly (also j {test} {C} {ts} {rows} tells rest) a k pos = go (eqb j k) test refl tells (exactly rest (right (not (has j rows)) _ more) k pos)
+  where
+    more : (not (has j rows) && apart rows) ≡ true
+    more = right (ltb 0 j) _ a
+
+    never : j ≡ k → refusal ts ≡ k → ⊥
+    never q = absent k pos (rw (← q) (not-true _ (left (not (has j rows)) _ more))) rest
+
+    go : (same t : Bool) → eqb j k ≡ same → Tells t C → (refusal ts ≡ k) ↔ (NoneBefore k rows × Condition k rows)
+        → (cond t (refusal ts) j ≡ k)
+        ↔ (cond same (Unit {0}) ((C → ⊥) × NoneBefore k rows) × cond same C (Condition k rows))
+    go true true q tells ih = (λ e. absurd (never (eqb-true j k q) e), λ h. absurd (true≢false (tells .1 (h .1))))
+    go true false q tells ih = (λ e. (tt, tells .0 refl), λ h. eqb-true j k q)
+    go false true q tells ih = (λ e. (((λ c. true≢false (tells .1 c)), ih .0 e .0), ih .0 e .1), λ h. ih .1 (h .0 .1, h .1))
+    go false false q tells ih = (λ e. absurd (eqb-false j k q e), λ h. absurd (h .0 .0 (tells .0 refl)))
+
+-- The refusal is 0, done, exactly when no row has its condition met.
+pub exactly-done : {ts : List Test} {rows : List Row} → Tell ts rows → apart rows ≡ true → (refusal ts ≡ 0) ↔ None rows
+unfolding refusal
+exactly-done nothing a = (λ e. tt, λ h. refl)
+exactly-done (also j {test} {C} {ts} {rows} tells rest) a = go test tells (exactly-done rest (right (not (has j rows)) _ (right (ltb 0 j) _ a)))
+  where
+    pos : 0 < j
+    pos = ltb-true 0 j (left (ltb 0 j) _ a)
+
+    not-done : j ≡ 0 → ⊥
+    not-done e = omega (arith, pos)
+
+    go : (t : Bool) → Tells t C → (refusal ts ≡ 0) ↔ None rows → (cond t (refusal ts) j ≡ 0) ↔ ((C → ⊥) × None rows)
+    go true tells ih = (λ e. ((λ c. true≢false (tells .1 c)), ih .0 e), λ h. ih .1 (h .1))
+    go false tells ih = (λ e. absurd (not-done e), λ h. absurd (h .0 (tells .0 refl)))
+
+-- The refusal is no larger than the largest number.
+pub at-most : {ts : List Test} {rows : List Row} → Tell ts rows → (m : ℕ) → upTo m rows ≡ true → refusal ts ≤ m
+unfolding refusal
+at-most nothing m a = omega arith
+at-most (also j {test} {C} {ts} {rows} tells rest) m a = go test (at-most rest m (right (leb j m) _ a))
+  where
+    go : (t : Bool) → refusal ts ≤ m → cond t (refusal ts) j ≤ m
+    go true ih = ih
+    go false ih = leb-true j m (left (leb j m) _ a)

@@ -1,0 +1,95 @@
+-- Document 01's table of refusals, row by row: a step is answered with a row's number exactly when the row's condition is met and that of no row
+-- which is checked earlier. The conditions and the order of the rows are in Conditions.antt.
+use Prim.Native.Nat.{ℕ, _≤_}
+use mathlib.Core.Path.{_≡_}
+use mathlib.Core.Logic.{_↔_}
+use lib.Dec.{lit<}
+use Rattle.steps.specs.declared.Step.{Step}
+use Rattle.node.specs.declared.Node.{Node}
+use Rattle.site.specs.declared.Site.{Site}
+use Rattle.rows.specs.Exactly.{NoneBefore, None}
+use Rattle.rows.specs.Conditions.{StartOutOfRange, OutsideItsRange, ActorCompromised, PhaseDoesNotTake, NeitherNowNorNext, BelowLastClock, NotFresh, NotVouchedFor, ReportNotNew, StatusAlready, StampNotAbove, NotArmed, TooFewChanges, EnoughDown, TickAtTheLast, SiteOrRecordOutOfRange, table}
+use Rattle.rows.specs.Given.{given}
+use Rattle.rows.specs.Cases.{told, told-done, told-at-most}
+
+-- for every site, number of records that are lent, record of the acting node, and step
+module _ (site : Site) (lent : ℕ) (node : Node) (step : Step) where
+  -- the step is answered with this number
+  abbrev pub Given : ℕ → Type 0
+  Given number = given site lent node step ≡ number
+
+  -- no row that is checked before this one has its condition met
+  abbrev pub Earlier : ℕ → Type 0
+  Earlier number = NoneBefore number (table site lent node step)
+
+  -- "done": no row at all has its condition met
+  pub row-0 : Given 0 ↔ None (table site lent node step)
+  row-0 = told-done site lent node step
+
+  -- "Start: f, k, status or g out of range, a compromised number not below n, more than f compromised, table shorter than n"
+  pub row-1 : Given 1 ↔ (Earlier 1 × StartOutOfRange site lent node step)
+  row-1 = told site lent node step 1 (lit< tt)
+
+  -- "node or sender ≥ n, status above 1, back above 7"
+  pub row-2 : Given 2 ↔ (Earlier 2 × OutsideItsRange site lent node step)
+  row-2 = told site lent node step 2 (lit< tt)
+
+  -- "the acting node (for Deliver, the receiver) is compromised"
+  pub row-3 : Given 3 ↔ (Earlier 3 × ActorCompromised site lent node step)
+  row-3 = told site lent node step 3 (lit< tt)
+
+  -- "the node's phase does not take this step (Down of a down node, Up of another)"
+  pub row-4 : Given 4 ↔ (Earlier 4 × PhaseDoesNotTake site lent node step)
+  row-4 = told site lent node step 4 (lit< tt)
+
+  -- "t is neither g nor g+1"
+  pub row-5 : Given 5 ↔ (Earlier 5 × NeitherNowNorNext site lent node step)
+  row-5 = told site lent node step 5 (lit< tt)
+
+  -- "t is below that node's, or the breaker's, last accepted clock since it started"
+  pub row-6 : Given 6 ↔ (Earlier 6 × BelowLastClock site lent node step)
+  row-6 = told site lent node step 6 (lit< tt)
+
+  -- "T not fresh at t"
+  pub row-7 : Given 7 ↔ (Earlier 7 × NotFresh site lent node step)
+  row-7 = told site lent node step 7 (lit< tt)
+
+  -- "share not made by its correct sender; for Command, verdict no"
+  pub row-8 : Given 8 ↔ (Earlier 8 × NotVouchedFor site lent node step)
+  row-8 = told site lent node step 8 (lit< tt)
+
+  -- "report not new"
+  pub row-9 : Given 9 ↔ (Earlier 9 × ReportNotNew site lent node step)
+  row-9 = told site lent node step 9 (lit< tt)
+
+  -- "breaker already has that status"
+  pub row-10 : Given 10 ↔ (Earlier 10 × StatusAlready site lent node step)
+  row-10 = told site lent node step 10 (lit< tt)
+
+  -- "T ≤ breaker's stamp"
+  pub row-11 : Given 11 ↔ (Earlier 11 × StampNotAbove site lent node step)
+  row-11 = told site lent node step 11 (lit< tt)
+
+  -- "timeout not armed"
+  pub row-12 : Given 12 ↔ (Earlier 12 × NotArmed site lent node step)
+  row-12 = told site lent node step 12 (lit< tt)
+
+  -- "fewer changes than `back` + 1"
+  pub row-13 : Given 13 ↔ (Earlier 13 × TooFewChanges site lent node step)
+  row-13 = told site lent node step 13 (lit< tt)
+
+  -- "Down: already k correct nodes down, by the site's own count"
+  pub row-14 : Given 14 ↔ (Earlier 14 × EnoughDown site lent node step)
+  row-14 = told site lent node step 14 (lit< tt)
+
+  -- "Tick when g is 1,000,000,000"
+  pub row-15 : Given 15 ↔ (Earlier 15 × TickAtTheLast site lent node step)
+  row-15 = told site lent node step 15 (lit< tt)
+
+  -- "any step but Start: no site started yet; a table shorter than n; a site number outside its range [..]; or the record of the acting node [..]"
+  pub row-16 : Given 16 ↔ (Earlier 16 × SiteOrRecordOutOfRange site lent node step)
+  row-16 = told site lent node step 16 (lit< tt)
+
+  -- A step is answered with no other number.
+  pub no-other : (number : ℕ) → Given number → number ≤ 16
+  no-other number e = rw (← e) (told-at-most site lent node step)

@@ -1,0 +1,185 @@
+// A line: number, refusal, the breaker, and what was sent.
+use crate::put_number;
+use pairs::Known;
+use pairs::Pair;
+use pairs::Pairs;
+use site::Sent;
+use site::Site;
+ghost use Prim.Native.Nat.{_+_, _≤_};
+ghost use mathlib.Core.Path.{_≡_};
+ghost use mathlib.Core.List.{[], _∷_, _++_, map};
+ghost use lib.ListN.{length};
+ghost use Rattle.pairs.specs.Pair.{listed, listedKnown};
+ghost use Rattle.site.specs.Effects.{Message};
+ghost use Rattle.text.specs.Puts.{Puts};
+ghost use Rattle.text.specs.Decimal.{decimal};
+ghost use Rattle.text.specs.Line.{letter, pairText, afterCommas, tailText, shownStatus, shownStamp};
+ghost use Rattle.text.specs.Lines.{sentMessages, lineText, lineBytes, lineNext};
+
+fn letter(status: u8) -> u8
+    ensures { λ out. ⌜ out ≡ letter status ⌝ }
+{
+    if status == 0 { b'C' } else { b'T' }
+}
+
+fn put_byte(out: &mut [u8], at: usize, byte: u8) -> usize
+    requires { ⌜ at + 1 ≤ length (now out) ⌝ }
+    ensures { λ r. ⌜ Puts (now (out .entry)) at (byte ∷ []) (now (out .exit)) r ⌝ }
+{
+    out[at] = byte;
+    at + 1
+}
+
+// A status, an at sign and a stamp.
+fn put_stamped(out: &mut [u8], at: usize, pair: Pair) -> usize
+    requires { ⌜ at + 22 ≤ length (now out) ⌝ }
+    ensures { λ r. ⌜ Puts (now (out .entry)) at (pairText pair) (now (out .exit)) r ⌝ }
+{
+    let status = letter(pair.status);
+    let a = put_byte(out, at, status);
+    let b = put_byte(out, a, b'@');
+    put_number(out, b, pair.stamp.0 as u64)
+}
+
+// A comma, a letter and a pair.
+fn put_pair(out: &mut [u8], at: usize, first: u8, pair: Pair) -> usize
+    requires { ⌜ at + 24 ≤ length (now out) ⌝ }
+    ensures { λ r. ⌜ Puts (now (out .entry)) at (44 ∷ first ∷ pairText pair) (now (out .exit)) r ⌝ }
+{
+    let a = put_byte(out, at, b',');
+    let b = put_byte(out, a, first);
+    put_stamped(out, b, pair)
+}
+
+// A comma and a share.
+fn put_share(out: &mut [u8], at: usize, i: u8, pair: Pair) -> usize
+    requires { ⌜ at + 44 ≤ length (now out) ⌝ }
+    ensures { λ r. ⌜ Puts (now (out .entry)) at (44 ∷ 83 ∷ (decimal i ++ pairText pair)) (now (out .exit)) r ⌝ }
+{
+    let a = put_byte(out, at, b',');
+    let b = put_byte(out, a, b'S');
+    let c = put_number(out, b, i as u64);
+    put_stamped(out, c, pair)
+}
+
+fn put_shares(out: &mut [u8], at: usize, i: u8, shares: Pairs) -> usize
+    requires { ⌜ at + 88 ≤ length (now out) ⌝ }
+    ensures { λ r. ⌜ Puts (now (out .entry)) at (afterCommas i (map Message.Share (listed shares))) (now (out .exit)) r ⌝ }
+{
+    match shares {
+        Pairs::Zero => at,
+        Pairs::One(p) => put_share(out, at, i, p),
+        Pairs::Two(p, q) => {
+            let next = put_share(out, at, i, p);
+            put_share(out, next, i, q)
+        }
+    }
+}
+
+fn put_commands(out: &mut [u8], at: usize, i: u8, commands: Pairs) -> usize
+    requires { ⌜ at + 48 ≤ length (now out) ⌝ }
+    ensures { λ r. ⌜ Puts (now (out .entry)) at (afterCommas i (map Message.Command (listed commands))) (now (out .exit)) r ⌝ }
+{
+    match commands {
+        Pairs::Zero => at,
+        Pairs::One(p) => put_pair(out, at, b'C', p),
+        Pairs::Two(p, q) => {
+            let next = put_pair(out, at, b'C', p);
+            put_pair(out, next, b'C', q)
+        }
+    }
+}
+
+fn put_ack(out: &mut [u8], at: usize, i: u8, ack: Known) -> usize
+    requires { ⌜ at + 24 ≤ length (now out) ⌝ }
+    ensures { λ r. ⌜ Puts (now (out .entry)) at (afterCommas i (map Message.Ack (listedKnown ack))) (now (out .exit)) r ⌝ }
+{
+    match ack {
+        Known::Yes(p) => put_pair(out, at, b'A', p),
+        Known::No => at,
+    }
+}
+
+// Everything that was sent, each message with a comma in front.
+fn put_sent(out: &mut [u8], at: usize, i: u8, sent: Sent) -> usize
+    requires { ⌜ at + 160 ≤ length (now out) ⌝ }
+    ensures { λ r. ⌜ Puts (now (out .entry)) at (afterCommas i (sentMessages sent)) (now (out .exit)) r ⌝ }
+{
+    let shares = sent.shares;
+    let commands = sent.commands;
+    let ack = sent.ack;
+    let after_shares = put_shares(out, at, i, shares);
+    let after_commands = put_commands(out, after_shares, i, commands);
+    put_ack(out, after_commands, i, ack)
+}
+
+fn put_head(out: &mut [u8], at: usize, number: u64, refusal: u8, status: u8, stamp: u32) -> usize
+    requires { ⌜ at + 64 ≤ length (now out) ⌝ }
+    ensures { λ r. ⌜ Puts (now (out .entry)) at (decimal number ++ (32 ∷ (decimal refusal ++ (32 ∷ status ∷ 32 ∷ decimal stamp)))) (now (out .exit)) r ⌝ }
+{
+    let a = put_number(out, at, number);
+    let b = put_byte(out, a, b' ');
+    let c = put_number(out, b, refusal as u64);
+    let d = put_byte(out, c, b' ');
+    let e = put_byte(out, d, status);
+    let f = put_byte(out, e, b' ');
+    put_number(out, f, stamp as u64)
+}
+
+// What was sent, from the place of the space before it to the line's end.
+fn put_tail(out: &mut [u8], at: usize, i: u8, sent: Sent) -> usize
+    requires { ⌜ at + 163 ≤ length (now out) ⌝ }
+    ensures { λ r. ⌜ Puts (now (out .entry)) at (tailText i (sentMessages sent)) (now (out .exit)) r ⌝ }
+{
+    let next = put_sent(out, at, i, sent);
+    let after = put_byte(out, at, b' ');
+    if next == at {
+        let end = put_byte(out, after, b'-');
+        return put_byte(out, end, b'\n');
+    }
+    put_byte(out, next, b'\n')
+}
+
+fn shown_status(site: Site) -> u8
+    ensures { λ out. ⌜ out ≡ shownStatus site ⌝ }
+{
+    if site.started {
+        letter(site.breaker.pair.status)
+    } else {
+        b'-'
+    }
+}
+
+fn shown_stamp(site: Site) -> u32
+    ensures { λ out. ⌜ out ≡ shownStamp site ⌝ }
+{
+    if site.started {
+        site.breaker.pair.stamp.0
+    } else {
+        0
+    }
+}
+
+// Puts a line, where there is room for the longest; otherwise nothing is written, and the place handed back is the one given.
+pub fn put_line(
+    out: &mut [u8],
+    at: usize,
+    number: u64,
+    refusal: u8,
+    site: Site,
+    i: u8,
+    sent: Sent,
+) -> usize
+    ensures { λ r. ⌜ (now (out .exit) ≡ lineBytes (now (out .entry)) at (lineText number refusal site i sent)) × (r ≡ lineNext (now (out .entry)) at (lineText number refusal site i sent)) ⌝ }
+{
+    if out.len() < 256 {
+        return at;
+    }
+    if out.len() - 256 < at {
+        return at;
+    }
+    let status = shown_status(site);
+    let stamp = shown_stamp(site);
+    let space = put_head(out, at, number, refusal, status, stamp);
+    put_tail(out, space, i, sent)
+}
