@@ -1,0 +1,67 @@
+-- "The table of nodes is lent by the caller, one record for each node; a step changes the record of the node it names and no other. Tick and
+-- Command change none. Start sets the first n and leaves the rest."
+use Prim.Native.Nat.{ℕ}
+use mathlib.Core.List.{List, _++_}
+use mathlib.Core.Option.{Option, none, some}
+use lib.ListN.{length, getD, set, drop}
+use Rattle.tables.specs.Tables.{table}
+use Rattle.node.specs.declared.Node.{Node}
+use Rattle.node.specs.Events.{wentDown}
+use Rattle.steps.specs.declared.Step.{Step}
+use Rattle.steps.specs.declared.Step.the-variants.{Start, Tick, Report, Deliver, ShareTimeout, ResendTimeout, Command, Ack, Query, Down, Up}
+use Rattle.site.specs.declared.Site.{Site}
+use Rattle.site.specs.declared.Answer.{Answer}
+use Rattle.site.specs.declared.Answer.the-variants.{Done, Refused}
+use Rattle.site.specs.declared.Out.{Out}
+use Rattle.site.specs.Site.{nodes}
+use Rattle.site.specs.Effects.{firstRecord}
+use Rattle.site.specs.Steps.{stepped}
+
+-- the node that a step names: for Deliver, the receiver
+abbrev pub actor : Step → Option ℕ
+actor (Start f k compromised status g) = none
+actor Tick = none
+actor (Report i t status number) = some i
+actor (Deliver sender i t status T) = some i
+actor (ShareTimeout i t) = some i
+actor (ResendTimeout i t) = some i
+actor (Command t status T) = none
+actor (Ack i t back) = some i
+actor (Query i t) = some i
+actor (Down i) = some i
+actor (Up i) = some i
+
+-- its record, where the table has one
+abbrev pub recordOf : Option ℕ → List Node → Node
+recordOf none records = wentDown
+recordOf (some i) records = getD records i wentDown
+
+-- the step with that record
+unfoldable pub outOf : Site → List Node → Step → Out
+outOf site records step = stepped site (length records) (recordOf (actor step) records) step
+
+-- the records that a Start makes, in front of those that it leaves
+abbrev pub begun : ℕ → ℕ → List Node → List Node
+begun n compromised records = table n (firstRecord compromised) ++ drop n records
+
+-- the table after an answer to a step
+abbrev pub afterDone : Step → List Node → Node → List Node
+afterDone (Start f k compromised status g) records node = begun (nodes f k) compromised records
+afterDone Tick records node = records
+afterDone (Report i t status number) records node = set records i node
+afterDone (Deliver sender i t status T) records node = set records i node
+afterDone (ShareTimeout i t) records node = set records i node
+afterDone (ResendTimeout i t) records node = set records i node
+afterDone (Command t status T) records node = records
+afterDone (Ack i t back) records node = set records i node
+afterDone (Query i t) records node = set records i node
+afterDone (Down i) records node = set records i node
+afterDone (Up i) records node = set records i node
+
+-- "a refused step changes none"
+abbrev pub after : Answer → Step → List Node → Node → List Node
+after (Done sent) step records node = afterDone step records node
+after (Refused number) step records node = records
+
+unfoldable pub tableAfter : Site → List Node → Step → List Node
+tableAfter site records step = after (outOf site records step .answer) step records (outOf site records step .node)

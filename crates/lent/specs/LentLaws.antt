@@ -1,0 +1,169 @@
+-- Laws of the lent table: records that are made one by one, and what a step that is done has found in the table.
+use Prim.Native.Nat.{ℕ, zero, suc, _≤_, _<_}
+use mathlib.Core.Path.{_≡_, refl, ap, subst}
+use mathlib.Core.Bool.{Bool, true, false, _&&_, cond, and-eq-true-iff}
+use mathlib.Core.List.{List, [], _∷_, _++_}
+use mathlib.Core.Option.{Option, none, some}
+use native.Mathlib.Nat.{not-suc-le-zero, le-of-suc-le-suc}
+use native.Mathlib.Omega.{arith}
+use lib.Dec.{eqb, leb}
+use lib.ListN.{length, getD, set, drop}
+use borrow.Author.Tests.{ltb-true, leb-true, eqb-true}
+use Rattle.refusals.specs.Tests.{Test, refusal, passed, done-passed}
+use Rattle.tables.specs.Tables.{table}
+use Rattle.node.specs.declared.Node.{Node}
+use Rattle.steps.specs.declared.Step.{Step}
+use Rattle.steps.specs.declared.Step.the-variants.{Start, Tick, Report, Deliver, ShareTimeout, ResendTimeout, Command, Ack, Query, Down, Up}
+use Rattle.site.specs.declared.Site.{Site}
+use Rattle.site.specs.declared.Answer.{Answer}
+use Rattle.site.specs.declared.Answer.the-variants.{Done, Refused}
+use Rattle.site.specs.declared.Out.{Out}
+use Rattle.site.specs.Site.{nodes, n, numbersSound, setsSound, siteSound, actorSound}
+use Rattle.site.specs.Tests.{isNode, startTests}
+use Rattle.site.specs.Effects.{refused, firstRecord, act, commanded}
+use Rattle.site.specs.Steps.{testsOf, effectOf, stepped}
+use Rattle.breaker.specs.Breaker.{breakerSound}
+use Rattle.lent.specs.Lent.{actor, recordOf, outOf, begun}
+use Rattle.lent.specs.InTurn.{startsOf, beginsOf}
+
+-- ---- records that are made
+
+module _ {A : Type 0} where
+  -- a list whose first n places are the rule's, and the next of them
+  fronted-more : (n : ℕ) (rule : ℕ → A) (l : List A) → n < length l → set (table n rule ++ drop n l) n (rule n) ≡ table (suc n) rule ++ drop (suc n) l
+  unfolding table
+  fronted-more n rule [] h = absurd (not-suc-le-zero h)
+  fronted-more zero rule (x ∷ xs) h = refl
+  fronted-more (suc n) rule (x ∷ xs) h = ap (λ (l : List A). rule zero ∷ l) (fronted-more n (λ i. rule (suc i)) xs (le-of-suc-le-suc h))
+
+  fronted-length : (n : ℕ) (rule : ℕ → A) (l : List A) → n ≤ length l → length (table n rule ++ drop n l) ≡ length l
+  unfolding table
+  fronted-length zero rule l h = refl
+  fronted-length (suc n) rule [] h = absurd (not-suc-le-zero h)
+  fronted-length (suc n) rule (x ∷ xs) h = ap suc (fronted-length n (λ i. rule (suc i)) xs (le-of-suc-le-suc h))
+
+module _ (compromised : ℕ) (records : List Node) where
+  -- no record is made
+  pub begun-none : records ≡ begun 0 compromised records
+  unfolding table
+  begun-none = refl
+
+  -- one more is
+  pub begun-more : (n : ℕ) → n < length records → set (begun n compromised records) n (firstRecord compromised n) ≡ begun (suc n) compromised records
+  begun-more n h = fronted-more n (firstRecord compromised) records h
+
+  pub begun-length : (n : ℕ) → n ≤ length records → length (begun n compromised records) ≡ length records
+  begun-length n h = fronted-length n (firstRecord compromised) records h
+
+-- ---- what is decided
+
+-- what holds of the effect, if all tests are passed, and of each refusal, holds of the step
+pub by-tests : (P : Out → Type 0) (site : Site) (lent : ℕ) (node : Node) (step : Step) → (refusal (testsOf site lent node step) ≡ 0 → P (effectOf site node step))
+    → ((number : ℕ) → P (refused number site node)) → P (stepped site lent node step)
+unfolding stepped
+by-tests P site lent node step done fails = go (eqb (refusal (testsOf site lent node step)) 0) refl
+  where
+    go : (b : Bool) → eqb (refusal (testsOf site lent node step)) 0 ≡ b → P (cond b (effectOf site node step) (refused (refusal (testsOf site lent node step)) site node))
+    go true e = done (eqb-true (refusal (testsOf site lent node step)) 0 e)
+    go false e = fails (refusal (testsOf site lent node step))
+
+abbrev pub isDone : Answer → Bool
+isDone (Done sent) = true
+isDone (Refused number) = false
+
+pub effect-done : (site : Site) (node : Node) (step : Step) → isDone (effectOf site node step .answer) ≡ true
+unfolding effectOf act commanded
+effect-done site node (Start f k compromised status g) = refl
+effect-done site node Tick = refl
+effect-done site node (Report i t status number) = refl
+effect-done site node (Deliver sender i t status T) = refl
+effect-done site node (ShareTimeout i t) = refl
+effect-done site node (ResendTimeout i t) = refl
+effect-done site node (Command t status T) = refl
+effect-done site node (Ack i t back) = refl
+effect-done site node (Query i t) = refl
+effect-done site node (Down i) = refl
+effect-done site node (Up i) = refl
+
+-- each of some tests that are passed
+each-passed : (i : ℕ) (ts : List Test) → passed ts ≡ true → getD ts i (0, true) .1 ≡ true
+unfolding passed
+each-passed i [] h = refl
+each-passed zero (t ∷ ts) h = and-eq-true-iff (t .1) (passed ts) .0 h .0
+each-passed (suc i) (t ∷ ts) h = each-passed i ts (and-eq-true-iff (t .1) (passed ts) .0 h .1)
+
+-- ---- a step that is done names a node of the table, or none
+
+below : (site : Site) (lent : ℕ) (node : Node) (i : ℕ) (fields : Bool) → (siteSound site lent && actorSound site node i) ≡ true → (isNode site i && fields) ≡ true → i < lent
+unfolding siteSound
+below site lent node i fields p q =
+    let sound = and-eq-true-iff (siteSound site lent) (actorSound site node i) .0 p .0 in
+    let numbers = and-eq-true-iff (site .started && leb (n site) lent && numbersSound site && setsSound site (n site)) (breakerSound (site .breaker)) .0 sound .0 in
+    let sets = and-eq-true-iff (site .started && leb (n site) lent && numbersSound site) (setsSound site (n site)) .0 numbers .0 in
+    let long = and-eq-true-iff (site .started && leb (n site) lent) (numbersSound site) .0 sets .0 in
+    let most = leb-true (n site) lent (and-eq-true-iff (site .started) (leb (n site) lent) .0 long .1) in
+    let least = ltb-true i (n site) (and-eq-true-iff (isNode site i) fields .0 q .0) in
+    omega (arith, most, least)
+
+abbrev pub Within : Option ℕ → ℕ → Type 0
+Within none lent = Unit {0}
+Within (some i) lent = i < lent
+
+by-first : (site : Site) (lent : ℕ) (node : Node) (i : ℕ) (fields : Bool) (ts : List Test) → passed ((16, siteSound site lent && actorSound site node i) ∷ (2, isNode site i && fields) ∷ ts) ≡ true → i < lent
+by-first site lent node i fields ts h = below site lent node i fields (each-passed 0 _ h) (each-passed 1 _ h)
+
+pub named-within : (site : Site) (lent : ℕ) (node : Node) (step : Step) → refusal (testsOf site lent node step) ≡ 0 → Within (actor step) lent
+unfolding testsOf
+named-within site lent node (Start f k compromised status g) e = tt
+named-within site lent node Tick e = tt
+named-within site lent node (Report i t status number) e = by-first site lent node i _ _ (done-passed _ refl e)
+named-within site lent node (Deliver sender i t status T) e = by-first site lent node i _ _ (done-passed _ refl e)
+named-within site lent node (ShareTimeout i t) e = by-first site lent node i _ _ (done-passed _ refl e)
+named-within site lent node (ResendTimeout i t) e = by-first site lent node i _ _ (done-passed _ refl e)
+named-within site lent node (Command t status T) e = tt
+named-within site lent node (Ack i t back) e = by-first site lent node i _ _ (done-passed _ refl e)
+named-within site lent node (Query i t) e = by-first site lent node i _ _ (done-passed _ refl e)
+named-within site lent node (Down i) e = by-first site lent node i _ _ (done-passed _ refl e)
+named-within site lent node (Up i) e = by-first site lent node i _ _ (done-passed _ refl e)
+
+-- "a step that names a node" with no record is refused
+pub named-refused : (site : Site) (records : List Node) (step : Step) (i : ℕ) → actor step ≡ some i → length records ≤ i → isDone (outOf site records step .answer) ≡ false
+unfolding outOf
+named-refused site records step i named past =
+    by-tests (λ out. isDone (out .answer) ≡ false) site (length records) (recordOf (actor step) records) step
+    (λ e. let l : i < length records = subst (λ (o : Option ℕ). Within o (length records)) named (named-within site (length records) (recordOf (actor step) records) step e) in absurd (omega (arith, l, past)))
+    (λ number. refl)
+
+-- ---- a Start that is done has its records in the table
+
+starts-within : (site : Site) (lent : ℕ) (node : Node) (step : Step) → refusal (testsOf site lent node step) ≡ 0 → (startsOf step ≤ 12) × (startsOf step ≤ lent)
+unfolding testsOf
+starts-within site lent node (Start f k compromised status g) e =
+    let h = done-passed (startTests lent f k compromised status g) refl e in
+    let most-f = leb-true f 4 (each-passed 0 _ h) in
+    let most-k = leb-true k 3 (each-passed 1 _ h) in
+    (omega (arith, most-f, most-k), leb-true (nodes f k) lent (each-passed 6 _ h))
+starts-within site lent node Tick e = (omega arith, omega arith)
+starts-within site lent node (Report i t status number) e = (omega arith, omega arith)
+starts-within site lent node (Deliver sender i t status T) e = (omega arith, omega arith)
+starts-within site lent node (ShareTimeout i t) e = (omega arith, omega arith)
+starts-within site lent node (ResendTimeout i t) e = (omega arith, omega arith)
+starts-within site lent node (Command t status T) e = (omega arith, omega arith)
+starts-within site lent node (Ack i t back) e = (omega arith, omega arith)
+starts-within site lent node (Query i t) e = (omega arith, omega arith)
+starts-within site lent node (Down i) e = (omega arith, omega arith)
+starts-within site lent node (Up i) e = (omega arith, omega arith)
+
+begins-le : (answer : Answer) (step : Step) → beginsOf answer step ≤ startsOf step
+begins-le (Done sent) step = omega arith
+begins-le (Refused number) step = omega arith
+
+pub begins-within : (site : Site) (records : List Node) (step : Step) → (beginsOf (outOf site records step .answer) step ≤ 12) × (beginsOf (outOf site records step .answer) step ≤ length records)
+unfolding outOf
+begins-within site records step =
+    by-tests (λ out. (beginsOf (out .answer) step ≤ 12) × (beginsOf (out .answer) step ≤ length records)) site (length records) (recordOf (actor step) records) step
+    (λ e.
+    let least = begins-le (effectOf site (recordOf (actor step) records) step .answer) step in
+    let most = starts-within site (length records) (recordOf (actor step) records) step e in
+    (omega (arith, least, most .0), omega (arith, least, most .1)))
+    (λ number. (omega arith, omega arith))

@@ -1,0 +1,181 @@
+// The table of nodes, lent by the caller: one record for each node. A step takes the record of the node that it names out of the table,
+// goes by value, and writes the record back; an accepted Start sets the first n records anew.
+use node::Node;
+use site::Answer;
+use site::Site;
+use steps::Step;
+ghost use mathlib.Core.Path.{_≡_};
+ghost use Prim.Native.Nat.{_<_, _≤_};
+ghost use lib.ListN.{length, set};
+ghost use Rattle.site.specs.Effects.{firstRecord};
+ghost use Rattle.lent.specs.Lent.{actor, begun, outOf, tableAfter};
+ghost use Rattle.lent.specs.InTurn.{placeOf, startsOf, beginsOf, compromisedOf, outAt};
+
+// What a step says to its caller, beside the table that it leaves.
+pub struct Told {
+    pub answer: Answer,
+    pub site: Site,
+}
+
+// Where the record of a node stands.
+fn index(i: u8) -> usize
+    ensures { λ out. ⌜ out ≡ i ⌝ }
+{
+    i as usize
+}
+
+// Where the record stands that a step takes: past the end where it names no node.
+fn place(step: Step, len: usize) -> usize
+    ensures { λ out. ⌜ out ≡ placeOf (actor step) len ⌝ }
+{
+    match step {
+        Step::Start {
+            f: _,
+            k: _,
+            compromised: _,
+            status: _,
+            g: _,
+        } => len,
+        Step::Tick => len,
+        Step::Report {
+            node: i,
+            t: _,
+            status: _,
+            number: _,
+        } => index(i),
+        Step::Deliver {
+            sender: _,
+            receiver: i,
+            t: _,
+            status: _,
+            stamp: _,
+        } => index(i),
+        Step::ShareTimeout { node: i, t: _ } => index(i),
+        Step::ResendTimeout { node: i, t: _ } => index(i),
+        Step::Command {
+            t: _,
+            status: _,
+            stamp: _,
+        } => len,
+        Step::Ack {
+            node: i,
+            t: _,
+            back: _,
+        } => index(i),
+        Step::Query { node: i, t: _ } => index(i),
+        Step::Down { node: i } => index(i),
+        Step::Up { node: i } => index(i),
+    }
+}
+
+// How many records a step sets anew, if it is accepted.
+fn starts(step: Step) -> usize
+    ensures { λ out. ⌜ out ≡ startsOf step ⌝ }
+{
+    match step {
+        Step::Start {
+            f,
+            k,
+            compromised: _,
+            status: _,
+            g: _,
+        } => 2 * (f as usize) + (k as usize) + 1,
+        _ => 0,
+    }
+}
+
+// How many records an answered step sets anew.
+fn begins(answer: Answer, step: Step) -> usize
+    ensures { λ out. ⌜ out ≡ beginsOf answer step ⌝ }
+{
+    match answer {
+        Answer::Done(_) => starts(step),
+        Answer::Refused(_) => 0,
+    }
+}
+
+// The mask of a Start, by which its records are made.
+fn compromised_of(step: Step) -> u16
+    ensures { λ out. ⌜ out ≡ compromisedOf step ⌝ }
+{
+    match step {
+        Step::Start {
+            f: _,
+            k: _,
+            compromised,
+            status: _,
+            g: _,
+        } => compromised,
+        _ => 0,
+    }
+}
+
+// The record of node i at a start.
+fn fresh(compromised: u16, i: usize) -> Node
+    requires { ⌜ i < 12 ⌝ }
+    ensures { λ out. ⌜ out ≡ firstRecord compromised i ⌝ }
+{
+    site::stepping::first_record(compromised, i as u8)
+}
+
+// A step with the record at i, which is written back; where there is none, with the record of a node that is down.
+fn act(nodes: &mut [Node], site: Site, i: usize, step: Step) -> Told
+    ensures { λ out. ⌜ (out .answer ≡ outAt site (now (nodes .entry)) i step .answer) × ((out .site ≡ outAt site (now (nodes .entry)) i step .site) × (now (nodes .exit) ≡ set (now (nodes .entry)) i (outAt site (now (nodes .entry)) i step .node))) ⌝ }
+{
+    if nodes.len() <= i {
+        let blank = node::events::down();
+        let out = site::stepping::step(site, nodes.len(), blank, step);
+        return Told {
+            answer: out.answer,
+            site: out.site,
+        };
+    }
+    let out = site::stepping::step(site, nodes.len(), nodes[i], step);
+    nodes[i] = out.node;
+    Told {
+        answer: out.answer,
+        site: out.site,
+    }
+}
+
+// The first n records are set anew, and the others left.
+fn fill(nodes: &mut [Node], n: usize, compromised: u16)
+    requires { ⌜ (n ≤ 12) × (n ≤ length (now nodes)) ⌝ }
+    ensures { λ out. ⌜ now (nodes .exit) ≡ begun n compromised (now (nodes .entry)) ⌝ }
+{
+    let mut i = 0;
+    while i < n {
+        nodes[i] = fresh(compromised, i);
+        i = i + 1;
+    }
+}
+
+// A step of a site with its table. A refused step, a Tick and a Command leave every record as it was.
+pub fn step(site: Site, nodes: &mut [Node], step: Step) -> Told
+    ensures { λ out. ⌜ (out .answer ≡ outOf site (now (nodes .entry)) step .answer) × ((out .site ≡ outOf site (now (nodes .entry)) step .site) × (now (nodes .exit) ≡ tableAfter site (now (nodes .entry)) step)) ⌝ }
+{
+    let i = place(step, nodes.len());
+    let told = act(nodes, site, i, step);
+    let n = begins(told.answer, step);
+    let compromised = compromised_of(step);
+    fill(nodes, n, compromised);
+    told
+}
+
+pub struct Whole {
+    pub answer: Answer,
+    pub site: Site,
+    pub nodes: [Node; 12],
+}
+
+// The same with the table by value: whoever calls this holds no reference to it.
+pub fn step_in(site: Site, mut nodes: [Node; 12], step: Step) -> Whole
+    ensures { λ out. ⌜ (out .answer ≡ outOf site nodes step .answer) × ((out .site ≡ outOf site nodes step .site) × (out .nodes ≡ tableAfter site nodes step)) ⌝ }
+{
+    let told = crate::step(site, &mut nodes, step);
+    Whole {
+        answer: told.answer,
+        site: told.site,
+        nodes,
+    }
+}

@@ -1,0 +1,157 @@
+//! When a step is turned away: the rows of the refusal table, asked in the paper's order.
+
+use crate::model::{fresh, is_new, Model, Pair, Record, Site, State, Status, Step, LAST_TICK};
+use std::collections::BTreeSet;
+
+impl Model {
+    /// The number of the first row that holds, or 0. (17 is the reader's; the caller's table always has
+    /// twelve records, so no table is too short.)
+    pub fn refusal(&self, step: &Step) -> u8 {
+        match (step, &self.site) {
+            (Step::Start { f, k, set, status, g }, _) => u8::from(!start_fits(*f, *k, *set, *status, *g)),
+            (_, None) => 16,
+            (_, Some(site)) => (2..=15).find(|&row| site.row(row, step)).unwrap_or(0),
+        }
+    }
+}
+
+fn start_fits(f: u8, k: u8, set: u16, status: u8, g: u32) -> bool {
+    if f > 4 || k > 3 || status > 1 || !(2..=999_999_000).contains(&g) {
+        return false;
+    }
+    let n = 2 * f + k + 1;
+    let compromised: Vec<u8> = (0..16).filter(|i| set >> i & 1 == 1).collect();
+    compromised.iter().all(|&i| i < n) && compromised.len() <= usize::from(f)
+}
+
+impl Step {
+    /// Every node that the step names.
+    fn names(&self) -> Vec<u8> {
+        match *self {
+            Step::Deliver { sender, receiver, .. } => vec![sender, receiver],
+            _ => self.acting().into_iter().collect(),
+        }
+    }
+
+    /// The node that acts; for a delivery, the receiver.
+    pub fn acting(&self) -> Option<u8> {
+        match *self {
+            Step::Start { .. } | Step::Tick | Step::Command { .. } => None,
+            Step::Report { node, .. }
+            | Step::Deliver { receiver: node, .. }
+            | Step::ShareTimeout { node, .. }
+            | Step::ResendTimeout { node, .. }
+            | Step::Ack { node, .. }
+            | Step::Query { node, .. }
+            | Step::Down { node }
+            | Step::Up { node } => Some(node),
+        }
+    }
+
+    /// The clock that the step names.
+    fn clock(&self) -> Option<u64> {
+        match *self {
+            Step::Start { .. } | Step::Tick | Step::Down { .. } | Step::Up { .. } => None,
+            Step::Report { t, .. }
+            | Step::Deliver { t, .. }
+            | Step::ShareTimeout { t, .. }
+            | Step::ResendTimeout { t, .. }
+            | Step::Command { t, .. }
+            | Step::Ack { t, .. }
+            | Step::Query { t, .. } => Some(u64::from(t)),
+        }
+    }
+
+    fn status(&self) -> Option<u8> {
+        match *self {
+            Step::Report { status, .. } | Step::Deliver { status, .. } | Step::Command { status, .. } => Some(status),
+            _ => None,
+        }
+    }
+
+    /// The action and stamp T of a delivery or a command.
+    fn signed(&self) -> Option<Pair> {
+        match *self {
+            Step::Deliver { status, stamp, .. } | Step::Command { status, stamp, .. } => {
+                Status::of(status).map(|status| Pair { status, stamp: u64::from(stamp) })
+            }
+            _ => None,
+        }
+    }
+}
+
+impl Site {
+    /// The last accepted clock of the node that acts, or of the breaker, since it started.
+    fn last_clock(&self, step: &Step) -> Option<u64> {
+        match step.acting() {
+            None => self.breaker_clock,
+            Some(node) => match &self.nodes[&node] {
+                Record::Down => None,
+                Record::Starting(learned) => learned.clock,
+                Record::Running(running) => Some(running.clock),
+            },
+        }
+    }
+
+    fn takes(&self, record: &Record, step: &Step) -> bool {
+        match record {
+            Record::Down => matches!(step, Step::Up { .. }),
+            Record::Starting(_) => {
+                matches!(step, Step::Report { .. } | Step::Ack { .. } | Step::Query { .. } | Step::Down { .. })
+            }
+            Record::Running(_) => !matches!(step, Step::Query { .. } | Step::Up { .. }),
+        }
+    }
+
+    fn makers(&self, share: Pair) -> BTreeSet<u8> {
+        self.made.get(&share).cloned().unwrap_or_default()
+    }
+
+    /// The signature verdict on a command.
+    pub fn verdict(&self, command: Pair) -> bool {
+        self.compromised.union(&self.makers(command)).count() >= usize::from(self.f) + 1
+    }
+
+    /// Whether this row of the table speaks against the step. A row is asked only when none before it did,
+    /// so nodes are below n from row 3 on and statuses below 2.
+    fn row(&self, row: u8, step: &Step) -> bool {
+        match row {
+            2 => {
+                let back = matches!(step, Step::Ack { back, .. } if *back > 7);
+                step.names().iter().any(|&node| node >= self.n) || step.status().is_some_and(|s| s > 1) || back
+            }
+            3 => step.acting().is_some_and(|node| self.compromised.contains(&node)),
+            4 => step.acting().is_some_and(|node| !self.takes(&self.nodes[&node], step)),
+            5 => step.clock().is_some_and(|t| t != self.g && t != self.g + 1),
+            6 => step.clock().is_some_and(|t| self.last_clock(step).is_some_and(|last| t < last)),
+            7 => step.signed().is_some_and(|signed| !fresh(signed.stamp, step.clock().unwrap())),
+            8 => match *step {
+                Step::Deliver { sender, .. } => {
+                    let share = step.signed().unwrap();
+                    !self.compromised.contains(&sender) && !self.makers(share).contains(&sender)
+                }
+                Step::Command { .. } => !self.verdict(step.signed().unwrap()),
+                _ => false,
+            },
+            9 => match *step {
+                Step::Report { node, number, .. } => match &self.nodes[&node] {
+                    Record::Down => false,
+                    Record::Starting(learned) => !is_new(number, learned.number),
+                    Record::Running(running) => !is_new(number, Some(running.number)),
+                },
+                _ => false,
+            },
+            10 => matches!(step, Step::Command { .. }) && step.signed().unwrap().status == self.breaker.status,
+            11 => matches!(step, Step::Command { .. }) && step.signed().unwrap().stamp <= self.breaker.stamp,
+            12 => match (step, step.acting().map(|node| &self.nodes[&node])) {
+                (Step::ShareTimeout { .. }, Some(Record::Running(node))) => !matches!(node.state(), State::Attempt(_)),
+                (Step::ResendTimeout { .. }, Some(Record::Running(node))) => node.resend.is_none(),
+                _ => false,
+            },
+            13 => matches!(*step, Step::Ack { back, .. } if self.change(back).is_none()),
+            14 => matches!(step, Step::Down { .. }) && self.down.len() >= usize::from(self.k),
+            15 => matches!(step, Step::Tick) && self.g == LAST_TICK,
+            _ => false,
+        }
+    }
+}

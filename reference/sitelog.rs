@@ -1,0 +1,18 @@
+//! The reference program: a log on standard input, a line for each record on standard output.
+
+use reference::replay::replay;
+use std::io::{stdin, stdout, BufWriter, Read, Write};
+
+fn main() -> std::io::Result<()> {
+    let mut bytes = Vec::new();
+    stdin().lock().read_to_end(&mut bytes)?;
+    let mut out = BufWriter::new(stdout().lock());
+    let mut written = Ok(());
+    replay(&bytes, |line| {
+        if written.is_ok() {
+            written = writeln!(out, "{line}");
+        }
+    });
+    written?;
+    out.flush()
+}

@@ -1,0 +1,37 @@
+//! One random log: `generate SEED [COUNT] > log`. With a COUNT it is a walk of that many records and no
+//! damage; without, it is the log that the comparison uses for that seed.
+
+use reference::log;
+use std::io::{stdout, Write};
+use std::process::exit;
+use tools::generator::{random_log, Walk, USUAL};
+
+fn main() {
+    let numbers: Option<Vec<u64>> = std::env::args().skip(1).map(|word| word.parse().ok()).collect();
+    let done = match numbers.as_deref() {
+        Some([seed]) => stdout().write_all(&random_log(*seed, USUAL)),
+        Some([seed, count]) => walk(*seed, *count),
+        _ => {
+            eprintln!("generate SEED [COUNT]");
+            exit(1)
+        }
+    };
+    if let Err(error) = done {
+        eprintln!("writing: {error}");
+        exit(1);
+    }
+}
+
+fn walk(seed: u64, count: u64) -> std::io::Result<()> {
+    let mut out = stdout().lock();
+    let mut walk = Walk::new(seed);
+    let mut bytes = vec![log::VERSION];
+    for _ in 0..count {
+        log::write(&walk.step().0, &mut bytes);
+        if bytes.len() > 1 << 16 {
+            out.write_all(&bytes)?;
+            bytes.clear();
+        }
+    }
+    out.write_all(&bytes)
+}
