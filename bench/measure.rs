@@ -1,7 +1,7 @@
 //! What a program needs for a log.
 //!
-//!     measure time ROUNDS LOG PROGRAM..   the best time of each in microseconds, taking turns
-//!     measure pipe PROGRAM < log          microseconds of processor time and peak memory in KB
+//!     measure time ROUNDS LOG COMMAND..   the best time of each in microseconds, taking turns
+//!     measure pipe COMMAND < log          microseconds of processor time and peak memory in KB
 //!
 //! `pipe` hands its own input on, waits with the end until the program has taken everything, and then reads
 //! what the system has counted for it; so the log can be made while it runs and be of any length.
@@ -20,7 +20,7 @@ fn main() {
         }
         ["pipe", program] => pipe(program),
         _ => {
-            eprintln!("measure time ROUNDS LOG PROGRAM.. | measure pipe PROGRAM < log");
+            eprintln!("measure time ROUNDS LOG COMMAND.. | measure pipe COMMAND < log");
             exit(1)
         }
     };
@@ -30,11 +30,19 @@ fn main() {
     }
 }
 
+/// A program and its words.
+fn command(text: &str) -> Command {
+    let mut words = text.split_whitespace();
+    let mut command = Command::new(words.next().unwrap_or_default());
+    command.args(words);
+    command
+}
+
 fn time(rounds: u32, log: &str, programs: &[&str]) -> Result<(), Error> {
     let mut best = vec![Duration::MAX; programs.len()];
     for _ in 0..rounds {
         for (program, best) in programs.iter().zip(&mut best) {
-            let mut command = Command::new(program);
+            let mut command = command(program);
             command.stdin(File::open(log)?).stdout(Stdio::null());
             let begin = Instant::now();
             command.status()?;
@@ -47,7 +55,7 @@ fn time(rounds: u32, log: &str, programs: &[&str]) -> Result<(), Error> {
 }
 
 fn pipe(program: &str) -> Result<(), Error> {
-    let mut child = Command::new(program).stdin(Stdio::piped()).stdout(Stdio::null()).spawn()?;
+    let mut child = command(program).stdin(Stdio::piped()).stdout(Stdio::null()).spawn()?;
     let mut into = child.stdin.take().unwrap();
     let mut input = stdin().lock();
     let mut block = vec![0; 1 << 16];

@@ -35,7 +35,10 @@ fn main() {
 }
 
 /// Does the work for every item, on all processors, until it fails.
-fn each<T: Send>(items: impl Iterator<Item = T> + Send, work: impl Fn(T) -> Result<(), String> + Sync) -> Result<(), String> {
+fn each<T: Send>(
+    items: impl Iterator<Item = T> + Send,
+    work: impl Fn(T) -> Result<(), String> + Sync,
+) -> Result<(), String> {
     let items = Mutex::new(items);
     let failure = Mutex::new(None);
     let worker = || loop {
@@ -163,7 +166,8 @@ fn cut_logs(program: &str) -> Result<(), String> {
 
 /// Logs of many blocks, whole and in pieces that end inside records and inside lengths.
 fn long_logs(program: &str) -> Result<(), String> {
-    let logs = [("a long walk", walk(2, 40_000)), ("a long run under attack", condition(Condition::ByzantineRecovery, 800))];
+    let logs =
+        [("a long walk", walk(2, 40_000)), ("a long run under attack", condition(Condition::ByzantineRecovery, 800))];
     let all = logs.iter().flat_map(|(name, bytes)| {
         let pieces = [(bytes.len(), bytes.len()), (bytes.len(), 4093), (bytes.len(), 13), (20_000, 1)];
         pieces.map(|(end, piece)| (format!("{name}, {end} bytes in pieces of {piece}"), &bytes[..end], piece))

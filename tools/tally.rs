@@ -5,7 +5,18 @@ use std::collections::BTreeMap;
 use std::fmt::{Display, Formatter, Result};
 
 const KINDS: [&str; 12] = [
-    "malformed", "Start", "Tick", "Report", "Deliver", "ShareTimeout", "ResendTimeout", "Command", "Ack", "Query", "Down", "Up",
+    "malformed",
+    "Start",
+    "Tick",
+    "Report",
+    "Deliver",
+    "ShareTimeout",
+    "ResendTimeout",
+    "Command",
+    "Ack",
+    "Query",
+    "Down",
+    "Up",
 ];
 
 #[derive(Default)]
@@ -39,7 +50,11 @@ impl Display for Tally {
     fn fmt(&self, out: &mut Formatter) -> Result {
         let lines: u64 = self.answers.values().sum();
         let accepted: u64 = self.answers.iter().filter(|((_, answer), _)| *answer == 0).map(|(_, times)| times).sum();
-        writeln!(out, "{lines} lines, {accepted} steps accepted, {} commands sent; answers and how often:", self.commands)?;
+        writeln!(
+            out,
+            "{lines} lines, {accepted} steps accepted, {} commands sent; answers and how often:",
+            self.commands
+        )?;
         for (kind, name) in (0..).zip(KINDS) {
             let answers = self.answers.iter().filter(|((of, _), _)| *of == kind);
             let answers: Vec<String> = answers.map(|((_, answer), times)| format!("{answer}: {times}")).collect();

@@ -179,3 +179,39 @@ pub fn step_in(site: Site, mut nodes: [Node; 12], step: Step) -> Whole
         nodes,
     }
 }
+
+// The same with a table of three records, which is shorter than n where n is above three.
+pub struct Three {
+    pub answer: Answer,
+    pub site: Site,
+    pub nodes: [Node; 3],
+}
+
+pub fn step_in_three(site: Site, mut nodes: [Node; 3], step: Step) -> Three
+    ensures { λ out. ⌜ (out .answer ≡ outOf site nodes step .answer) × ((out .site ≡ outOf site nodes step .site) × (out .nodes ≡ tableAfter site nodes step)) ⌝ }
+{
+    let told = crate::step(site, &mut nodes, step);
+    Three {
+        answer: told.answer,
+        site: told.site,
+        nodes,
+    }
+}
+
+// The same with a table of no record, shorter than any n.
+pub struct Empty {
+    pub answer: Answer,
+    pub site: Site,
+    pub nodes: [Node; 0],
+}
+
+pub fn step_in_empty(site: Site, mut nodes: [Node; 0], step: Step) -> Empty
+    ensures { λ out. ⌜ (out .answer ≡ outOf site nodes step .answer) × ((out .site ≡ outOf site nodes step .site) × (out .nodes ≡ tableAfter site nodes step)) ⌝ }
+{
+    let told = crate::step(site, &mut nodes, step);
+    Empty {
+        answer: told.answer,
+        site: told.site,
+        nodes,
+    }
+}
