@@ -1,6 +1,6 @@
 -- A status with its stamp. "Status 0 is CLOSE, 1 is TRIP."
 use Prim.Native.Nat.{ℕ}
-use mathlib.Core.Bool.{Bool}
+use mathlib.Core.Bool.{Bool, false, _&&_, _||_}
 use mathlib.Core.List.{List, [], _∷_}
 use lib.Dec.{eqb}
 use Rattle.time.specs.declared.Dts.{Dts}
@@ -25,3 +25,8 @@ listed (Two p q) = p ∷ q ∷ []
 abbrev pub listedKnown : Known → List Pair
 listedKnown (Yes p) = p ∷ []
 listedKnown No = []
+
+-- this status with this stamp is among them
+abbrev pub has : List Pair → ℕ → Dts → Bool
+has [] A T = false
+has (p ∷ ps) A T = (eqb A (p .status) && eqb (T .0) (p .stamp .0)) || has ps A T

@@ -1,0 +1,95 @@
+-- The third demand. "Count from the last accepted start, with a fixed set of at most f compromised nodes, and take every sequence of steps, each
+-- given the site and table the last one left."
+-- `Reached h m` is such a sequence: h tells its steps and answers, and m is the site and table that it leaves. `accepted h` are the steps accepted
+-- since the last accepted Start, `lastStart h` is what that Start gave.
+use Prim.Native.Nat.{ℕ, _+_, _≤_, _<_}
+use mathlib.Core.Path.{_≡_}
+use mathlib.Core.Bool.{Bool, true, false, _&&_}
+use mathlib.Core.List.{List, [], _∷_}
+use mathlib.Core.Logic.{_⊎_}
+use mathlib.Core.Option.{Option, some}
+use Rattle.time.specs.declared.Dts.{Dts}
+use Rattle.senders.specs.Sets.{count}
+use Rattle.senders.specs.Masks.{isIn}
+use Rattle.pairs.specs.declared.Pair.{Pair}
+use Rattle.pairs.specs.declared.Known.the-variants.{Yes}
+use Rattle.pairs.specs.Pair.{listed, has}
+use Rattle.node.specs.declared.Record.{Record}
+use Rattle.node.specs.declared.Phase.the-variants.{Running}
+use Rattle.node.specs.State.{attempts}
+use Rattle.node.specs.Asked.{isRunning}
+use Rattle.steps.specs.declared.Step.the-variants.{Command}
+use Rattle.site.specs.Site.{nodes}
+use Rattle.rows.specs.Named.{command, Beginning, named, Of}
+use Rattle.sequences.specs.History.{Entry, Accepted, kindOf, lastStart, accepted, isAt, atNode, lastReport, clock, runs, deliveries, freshAtClock}
+use Rattle.sequences.specs.Moments.{Moment, Reached, Accepts, recordAt, holds}
+
+-- a correct node of the last Start's
+abbrev pub Correct : Beginning → ℕ → Type 0
+Correct b i = (i < nodes (b .f) (b .k)) × (isIn (b .compromised) i ≡ false)
+
+-- one of some accepted steps, with those before it, is as P says
+pub data Earlier (P : Accepted → List Accepted → Type 0) : List Accepted → Type 0 where
+  here : {a : Accepted} {before : List Accepted} → P a before → Earlier P (a ∷ before)
+  further : {a : Accepted} {before : List Accepted} → Earlier P before → Earlier P (a ∷ before)
+
+-- each of them is as P says
+abbrev pub Each : (Accepted → Type 0) → List Accepted → Type 0
+Each P [] = Unit {0}
+Each P (a ∷ before) = P a × Each P before
+
+-- In this step node i shared (A, T), "whose own clock then read T or T−1 and whose relay's last accepted report was that action".
+pub record Shared (i A : ℕ) (T : Dts) (a : Accepted) (before : List Accepted) : Type 0 where
+  pub by-node : isAt i a ≡ true
+  pub shared : has (listed (a .sent .shares)) A T ≡ true
+  pub at-clock : Of (named (a .step) .clock) λ t. (t .0 ≡ T .0) ⊎ (t .0 + 1 ≡ T .0)
+  pub reported : lastReport (atNode i (a ∷ before)) ≡ some A
+
+-- where the step is a change, its stamp T, and the stamp that the breaker acknowledges, are as P says
+abbrev pub Changed : (Dts → Type 0) → Accepted → Type 0
+Changed P a = kindOf a ≡ command → Of (named (a .step) .stamp) P × ((p : Pair) → a .sent .ack ≡ Yes p → P (p .stamp))
+
+-- for a history h, the moment m to which it leads, and what its last accepted Start gave
+module _ (h : List Entry) (m : Moment) (b : Beginning) where
+  -- the accepted steps at node j
+  abbrev pub at : ℕ → List Accepted
+  at j = atNode j (accepted h)
+
+  -- 1. "Each accepted change to an action at stamp T was shared earlier by a correct node whose own clock then read T or T−1 and whose relay's last
+  -- accepted report was that action"
+  abbrev pub SharedByACorrectNode : Type 0
+  SharedByACorrectNode = (t : Dts) (A : ℕ) (T : Dts) → Accepts m (Command t A T) → (i : ℕ) × Correct b i × Earlier (Shared i A T) (accepted h)
+
+  -- 2. "accepted stamps strictly rise"
+  abbrev pub StampsRise : Type 0
+  StampsRise = (t : Dts) (A : ℕ) (T : Dts) → Accepts m (Command t A T) → Each (Changed λ U. U .0 < T .0) (accepted h)
+
+  -- 3. "What a running correct node holds from a sender follows from that sender's fresh shares delivered since the holder began running and the
+  -- holder's clock, whatever the others send". A correct node runs when its history says so,
+  abbrev pub RunsAsTold : Type 0
+  RunsAsTold = (j : ℕ) → Correct b j → isRunning (recordAt m j) ≡ runs (at j)
+
+  -- and then a share is held exactly when it was delivered, or made by the node itself, since the node began running, and its stamp is fresh now.
+  abbrev pub HeldExactly : Type 0
+  HeldExactly =
+      (j : ℕ) → Correct b j → runs (at j) ≡ true
+      → (i A : ℕ) (T : Dts) → holds m j A T i ≡ (has (deliveries i j (at j)) A T && freshAtClock T (clock (at j)))
+
+  -- 4. "where f+1 senders are held at a fresh stamp above its breaker stamp, for the action it attempts, it sends the command in that same step":
+  -- no running correct node is left in Attempt with such a stamp.
+  abbrev pub NoneLeft : Type 0
+  NoneLeft =
+      (j : ℕ) → Correct b j → (rec : Record) → recordAt m j .phase ≡ Running rec → attempts (rec .r) (rec .b) ≡ true
+      → (T : Dts) → rec .b .stamp .0 < T .0 → count (nodes (b .f) (b .k)) (holds m j (rec .r .status) T) ≤ b .f
+
+-- The demand, for every sequence that has an accepted Start
+abbrev pub Always : (List Entry → Moment → Beginning → Type 0) → Type 0
+Always P = (h : List Entry) (m : Moment) → Reached h m → (b : Beginning) → lastStart h ≡ some b → P h m b
+
+-- 3, for two sequences: where they agree on one sender's deliveries and on the holder's clock, they agree on what is held from it.
+abbrev pub OneSendersOwn : Type 0
+OneSendersOwn =
+    (h h′ : List Entry) (m m′ : Moment) → Reached h m → Reached h′ m′ → (b b′ : Beginning) → lastStart h ≡ some b → lastStart h′ ≡ some b′
+    → (j : ℕ) → Correct b j → Correct b′ j → runs (at h m b j) ≡ true → runs (at h′ m′ b′ j) ≡ true
+    → (i : ℕ) → deliveries i j (at h m b j) ≡ deliveries i j (at h′ m′ b′ j) → clock (at h m b j) ≡ clock (at h′ m′ b′ j)
+    → (A : ℕ) (T : Dts) → holds m j A T i ≡ holds m′ j A T i

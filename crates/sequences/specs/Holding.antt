@@ -1,0 +1,228 @@
+-- What a node holds once its own shares are put, and what the combining rule leaves. These laws go by the store's view alone.
+use Prim.Native.Nat.{ℕ, _+_, _-_, _≤_, _<_}
+use mathlib.Core.Path.{_≡_, refl, sym, ap, _∙_}
+use mathlib.Core.Bool.{Bool, true, false, not, _&&_, _||_, cond, false≢true, and-eq-true-iff}
+use mathlib.Core.Logic.{_⊎_, inl, inr}
+use mathlib.Core.List.{List, [], _∷_, _++_}
+use native.Mathlib.Omega.{arith}
+use lib.Dec.{eqb, leb, ltb}
+use borrow.Author.Tests.{eq-eqb, eqb-true, leb-true, le-leb, lt-ltb}
+use Rattle.time.specs.declared.Dts.{Dts}
+use Rattle.time.specs.Fresh.{fresh, window}
+use Rattle.senders.specs.Masks.{room}
+use Rattle.store.specs.declared.Store.{Store}
+use Rattle.store.specs.declared.Earliest.{Earliest}
+use Rattle.store.specs.declared.Earliest.the-variants.{Stamp, Nothing}
+use Rattle.store.specs.Store.{hasPlace, put, movedTo}
+use Rattle.store.specs.Held.{held, takes, held-put, held-moved, clock-put, clock-moved}
+use Rattle.store.specs.Earliest.{earliest}
+use Rattle.pairs.specs.declared.Pair.{Pair}
+use Rattle.pairs.specs.declared.Pairs.{Pairs}
+use Rattle.pairs.specs.declared.Pairs.the-variants.{Zero, One, Two}
+use Rattle.pairs.specs.declared.Known.the-variants.{No}
+use Rattle.pairs.specs.Pair.{pair, listed, has}
+use Rattle.node.specs.declared.Record.{Record}
+use Rattle.node.specs.State.{attempts}
+use Rattle.node.specs.Combining.{putAll, commanded, combined}
+
+-- ---- lists of shares
+
+pub has-append : (ps qs : List Pair) (A : ℕ) (T : Dts) → has (ps ++ qs) A T ≡ (has ps A T || has qs A T)
+has-append [] qs A T = refl
+has-append (p ∷ ps) qs A T =
+    ap (λ (x : Bool). (eqb A (p .status) && eqb (T .0) (p .stamp .0)) || x) (has-append ps qs A T)
+    ∙ regroup (eqb A (p .status) && eqb (T .0) (p .stamp .0)) (has ps A T) (has qs A T)
+  where
+    regroup : (x y z : Bool) → (x || (y || z)) ≡ (x || y || z)
+    regroup true y z = refl
+    regroup false y z = refl
+
+pub has-cond : (x : Bool) (ps : List Pair) (A : ℕ) (T : Dts) → has (cond x ps []) A T ≡ (x && has ps A T)
+has-cond true ps A T = refl
+has-cond false ps A T = refl
+
+-- each is of an action, and fresh at the clock
+abbrev NearOne : Dts → Pair → Type 0
+NearOne t p = (p .status ≤ 1) × (fresh (p .stamp) t ≡ true)
+
+abbrev pub Near : Dts → Pairs → Type 0
+Near t Zero = Unit {0}
+Near t (One p) = NearOne t p
+Near t (Two p q) = NearOne t p × NearOne t q
+
+pub fresh-same : (T U t : Dts) → eqb (T .0) (U .0) ≡ true → fresh U t ≡ true → fresh T t ≡ true
+fresh-same T U t e h = let p : T .0 ≡ U .0 = eqb-true (T .0) (U .0) e in rw p h
+
+one-fresh : (t : Dts) (p : Pair) (A : ℕ) (T : Dts) → NearOne t p → (eqb A (p .status) && eqb (T .0) (p .stamp .0)) ≡ true → fresh T t ≡ true
+one-fresh t p A T n e = fresh-same T (p .stamp) t (and-eq-true-iff (eqb A (p .status)) (eqb (T .0) (p .stamp .0)) .0 e .1) (n .1)
+
+-- what such shares hold is fresh
+pub near-fresh : (t : Dts) (sh : Pairs) (A : ℕ) (T : Dts) → Near t sh → has (listed sh) A T ≡ true → fresh T t ≡ true
+near-fresh t Zero A T n e = absurd (false≢true e)
+near-fresh t (One p) A T n e = go (eqb A (p .status) && eqb (T .0) (p .stamp .0)) refl e
+  where
+    go : (x : Bool) → (eqb A (p .status) && eqb (T .0) (p .stamp .0)) ≡ x → (x || false) ≡ true → fresh T t ≡ true
+    go true ex e = one-fresh t p A T n ex
+    go false ex e = absurd (false≢true e)
+near-fresh t (Two p q) A T n e = go (eqb A (p .status) && eqb (T .0) (p .stamp .0)) (eqb A (q .status) && eqb (T .0) (q .stamp .0)) refl refl e
+  where
+    go : (x y : Bool) → (eqb A (p .status) && eqb (T .0) (p .stamp .0)) ≡ x → (eqb A (q .status) && eqb (T .0) (q .stamp .0)) ≡ y → (x || (y || false)) ≡ true
+        → fresh T t ≡ true
+    go true y ex ey e = one-fresh t p A T (n .0) ex
+    go false true ex ey e = one-fresh t q A T (n .1) ey
+    go false false ex ey e = absurd (false≢true e)
+
+-- ---- shares that are put
+
+-- a store has room for what is near its clock
+pub takes-near : (s : Store) (i A : ℕ) (T : Dts) → i < room → A ≤ 1 → fresh T (s .clock) ≡ true → takes s i A T ≡ true
+unfolding takes hasPlace
+takes-near s i A T l a f = simp (lt-ltb i room l, lt-ltb A 2 (omega arith), f)
+
+pub held-taken : (s : Store) (i a : ℕ) (T : Dts) (b : ℕ) (U : Dts) (j : ℕ) → takes s i a T ≡ true
+    → held (put s i a T) b U j ≡ (eqb b a && eqb (U .0) (T .0) && eqb j i || held s b U j)
+held-taken s i a T b U j e =
+    held-put s i a T b U j ∙ ap (λ (x : Bool). x && (eqb b a && eqb (U .0) (T .0)) && eqb j i || held s b U j) e
+
+pub held-all : (s : Store) (i : ℕ) (sh : Pairs) (A : ℕ) (T : Dts) (j : ℕ) → i < room → Near (s .clock) sh
+    → held (putAll s i sh) A T j ≡ (eqb j i && has (listed sh) A T || held s A T j)
+unfolding putAll
+held-all s i Zero A T j l n = none (eqb j i)
+  where
+    none : (x : Bool) → held s A T j ≡ (x && false || held s A T j)
+    none true = refl
+    none false = refl
+held-all s i (One p) A T j l n =
+    held-taken s i (p .status) (p .stamp) A T j (takes-near s i (p .status) (p .stamp) l (n .0) (n .1))
+    ∙ tidy (eqb A (p .status) && eqb (T .0) (p .stamp .0)) (eqb j i)
+  where
+    tidy : (m z : Bool) → (m && z || held s A T j) ≡ (z && (m || false) || held s A T j)
+    tidy true true = refl
+    tidy true false = refl
+    tidy false true = refl
+    tidy false false = refl
+held-all s i (Two p q) A T j l n =
+    held-taken first i (q .status) (q .stamp) A T j second
+    ∙ ap (λ (x : Bool). eqb A (q .status) && eqb (T .0) (q .stamp .0) && eqb j i || x)
+    (held-taken s i (p .status) (p .stamp) A T j (takes-near s i (p .status) (p .stamp) l (n .0 .0) (n .0 .1)))
+    ∙ tidy (eqb A (p .status) && eqb (T .0) (p .stamp .0)) (eqb A (q .status) && eqb (T .0) (q .stamp .0)) (eqb j i)
+  where
+    first : Store
+    first = put s i (p .status) (p .stamp)
+
+    second : takes first i (q .status) (q .stamp) ≡ true
+    second = takes-near first i (q .status) (q .stamp) l (n .1 .0) (rw (clock-put s i (p .status) (p .stamp)) (n .1 .1))
+
+    tidy : (m k z : Bool) → (k && z || (m && z || held s A T j)) ≡ (z && (m || (k || false)) || held s A T j)
+    tidy true true true = refl
+    tidy true false true = refl
+    tidy false true true = refl
+    tidy false false true = refl
+    tidy true true false = refl
+    tidy true false false = refl
+    tidy false true false = refl
+    tidy false false false = refl
+
+pub clock-all : (s : Store) (i : ℕ) (sh : Pairs) → putAll s i sh .clock ≡ s .clock
+unfolding putAll
+clock-all s i Zero = refl
+clock-all s i (One p) = clock-put s i (p .status) (p .stamp)
+clock-all s i (Two p q) = clock-put (put s i (p .status) (p .stamp)) i (q .status) (q .stamp) ∙ clock-put s i (p .status) (p .stamp)
+
+-- whatever is held then was put now or held before
+pub from-one : (s : Store) (i a : ℕ) (U : Dts) (A : ℕ) (T : Dts) (j : ℕ) → held (put s i a U) A T j ≡ true
+    → (((eqb A a && eqb (T .0) (U .0)) ≡ true) × (eqb j i ≡ true)) ⊎ (held s A T j ≡ true)
+from-one s i a U A T j e =
+    go (takes s i a U) (eqb A a && eqb (T .0) (U .0)) (eqb j i) (held s A T j) (sym (held-put s i a U A T j) ∙ e)
+  where
+    go : (w x y z : Bool) → (w && x && y || z) ≡ true → ((x ≡ true) × (y ≡ true)) ⊎ (z ≡ true)
+    go true true true z e = inl (refl, refl)
+    go true true false z e = inr e
+    go true false y z e = inr e
+    go false x y z e = inr e
+
+pub from-all : (s : Store) (i : ℕ) (sh : Pairs) (A : ℕ) (T : Dts) (j : ℕ) → held (putAll s i sh) A T j ≡ true
+    → ((has (listed sh) A T ≡ true) × (eqb j i ≡ true)) ⊎ (held s A T j ≡ true)
+unfolding putAll
+from-all s i Zero A T j e = inr e
+from-all s i (One p) A T j e = go (from-one s i (p .status) (p .stamp) A T j e)
+  where
+    go : (((eqb A (p .status) && eqb (T .0) (p .stamp .0)) ≡ true) × (eqb j i ≡ true)) ⊎ (held s A T j ≡ true)
+        → ((has (p ∷ []) A T ≡ true) × (eqb j i ≡ true)) ⊎ (held s A T j ≡ true)
+    go (inl h) = inl (ap (λ (x : Bool). x || false) (h .0), h .1)
+    go (inr h) = inr h
+from-all s i (Two p q) A T j e = go (from-one (put s i (p .status) (p .stamp)) i (q .status) (q .stamp) A T j e)
+  where
+    late : (x y : Bool) → y ≡ true → (x || (y || false)) ≡ true
+    late true y e = refl
+    late false true e = refl
+    late false false e = absurd (false≢true e)
+
+    again : (((eqb A (p .status) && eqb (T .0) (p .stamp .0)) ≡ true) × (eqb j i ≡ true)) ⊎ (held s A T j ≡ true)
+        → ((has (p ∷ q ∷ []) A T ≡ true) × (eqb j i ≡ true)) ⊎ (held s A T j ≡ true)
+    again (inl h) = inl (ap (λ (x : Bool). x || has (q ∷ []) A T) (h .0), h .1)
+    again (inr h) = inr h
+
+    go : (((eqb A (q .status) && eqb (T .0) (q .stamp .0)) ≡ true) × (eqb j i ≡ true)) ⊎ (held (put s i (p .status) (p .stamp)) A T j ≡ true)
+        → ((has (p ∷ q ∷ []) A T ≡ true) × (eqb j i ≡ true)) ⊎ (held s A T j ≡ true)
+    go (inl h) = inl (late (eqb A (p .status) && eqb (T .0) (p .stamp .0)) (eqb A (q .status) && eqb (T .0) (q .stamp .0)) (h .0), h .1)
+    go (inr h) = again (from-one s i (p .status) (p .stamp) A T j h)
+
+-- ---- a later clock
+
+pub clock-at : (s : Store) (t : Dts) → s .clock .0 ≤ t .0 → movedTo s t .clock ≡ t
+clock-at s t l = ap (λ (c : ℕ). record { 0 = c }) (clock-moved s t ∙ larger)
+  where
+    larger : Prim.Native.Nat.max (s .clock .0) (t .0) ≡ t .0
+    larger = omega arith
+
+-- fresh at a later clock, and not ahead of the earlier one: fresh then
+pub fresh-then : (T c t : Dts) → c .0 ≤ t .0 → T .0 ≤ c .0 + window → fresh T t ≡ true → fresh T c ≡ true
+fresh-then T c t l h e =
+    let q = and-eq-true-iff (leb (t .0 - window) (T .0)) (leb (T .0) (t .0 + window)) .0 e in
+    let low : t .0 - window ≤ T .0 = leb-true _ _ (q .0) in
+    simp (le-leb (c .0 - window) (T .0) (omega arith), le-leb (T .0) (c .0 + window) h)
+
+pub fresh-ahead : (T t : Dts) → fresh T t ≡ true → T .0 ≤ t .0 + window
+fresh-ahead T t e = leb-true _ _ (and-eq-true-iff (leb (t .0 - window) (T .0)) (leb (T .0) (t .0 + window)) .0 e .1)
+
+-- What was held of some deliveries, at a later clock.
+pub held-later : (s : Store) (t : Dts) (ps : List Pair) (A : ℕ) (T : Dts) (i : ℕ) → s .clock .0 ≤ t .0
+    → held s A T i ≡ (has ps A T && fresh T (s .clock)) → (has ps A T ≡ true → T .0 ≤ s .clock .0 + window)
+    → held (movedTo s t) A T i ≡ (has ps A T && fresh T t)
+held-later s t ps A T i l e soon =
+    held-moved s t A T i
+    ∙ ap (λ (c : Dts). fresh T c && held s A T i) (clock-at s t l)
+    ∙ ap (λ (x : Bool). fresh T t && x) e
+    ∙ go (has ps A T) (fresh T t) (fresh T (s .clock)) soon (λ h. λ k. fresh-then T (s .clock) t l h k)
+  where
+    go : (h x y : Bool) → (h ≡ true → T .0 ≤ s .clock .0 + window) → (T .0 ≤ s .clock .0 + window → x ≡ true → y ≡ true) → (x && (h && y)) ≡ (h && x)
+    go true true y soon keeps = keeps (soon refl) refl
+    go true false y soon keeps = refl
+    go false true y soon keeps = refl
+    go false false y soon keeps = refl
+
+-- ---- the combining rule
+
+-- nothing is left to combine
+abbrev pub Quiet : Record → Store → ℕ → Type 0
+Quiet rec store f = attempts (rec .r) (rec .b) ≡ true → earliest store (rec .r .status) (rec .b .stamp) f ≡ Nothing
+
+pub combined-quiet : (rec : Record) (store : Store) (f : ℕ) → Quiet (combined rec store f .rec) store f
+unfolding combined
+combined-quiet rec store f = go (attempts (rec .r) (rec .b)) (earliest store (rec .r .status) (rec .b .stamp) f) refl refl
+  where
+    go : (x : Bool) (e : Earliest) → attempts (rec .r) (rec .b) ≡ x → earliest store (rec .r .status) (rec .b .stamp) f ≡ e
+        → Quiet (cond x (commanded rec e) (record { rec = rec; command = No }) .rec) store f
+    go false e ex ee = λ h. absurd (false≢true (sym ex ∙ h))
+    go true Nothing ex ee = λ h. ee
+    go true (Stamp T) ex ee = λ h. absurd (false≢true (sym (simp (eq-eqb (rec .r .status) (rec .r .status) refl)) ∙ h))
+
+pub combined-r : (rec : Record) (store : Store) (f : ℕ) → combined rec store f .rec .r ≡ rec .r
+unfolding combined
+combined-r rec store f = go (attempts (rec .r) (rec .b)) (earliest store (rec .r .status) (rec .b .stamp) f)
+  where
+    go : (x : Bool) (e : Earliest) → cond x (commanded rec e) (record { rec = rec; command = No }) .rec .r ≡ rec .r
+    go false e = refl
+    go true Nothing = refl
+    go true (Stamp T) = refl

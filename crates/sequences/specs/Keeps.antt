@@ -1,0 +1,142 @@
+-- What a site and its table keep of the history, step by step.
+use Prim.Native.Nat.{ℕ, _+_, _≤_, _<_}
+use mathlib.Core.Path.{_≡_, refl, sym, ap, ap₂, subst, _∙_}
+use mathlib.Core.Bool.{Bool, true, false, not, _&&_, _||_, cond, false≢true, and-eq-true-iff}
+use mathlib.Core.Logic.{_⊎_, inl, inr}
+use mathlib.Core.List.{List, [], _∷_}
+use mathlib.Core.Option.{Option, none, some}
+use lib.Dec.{eqb}
+use lib.ListN.{length, getD, set}
+use lib.Seq.{getD-set-same, getD-set-other}
+use borrow.Author.Tests.{eqb-true, eqb-false, eq-eqb}
+use Rattle.time.specs.declared.Dts.{Dts}
+use Rattle.senders.specs.Masks.{isIn, room}
+use Rattle.store.specs.Held.{held}
+use Rattle.pairs.specs.declared.Pairs.{Pairs}
+use Rattle.pairs.specs.declared.Pairs.the-variants.{Zero}
+use Rattle.pairs.specs.Pair.{listed, has}
+use Rattle.node.specs.declared.Node.{Node}
+use Rattle.node.specs.declared.Acted.{Acted}
+use Rattle.node.specs.Combining.{putAll, finished}
+use Rattle.node.specs.Events.{wentDown}
+use Rattle.steps.specs.declared.Step.{Step}
+use Rattle.site.specs.declared.Site.{Site}
+use Rattle.site.specs.declared.Sent.{Sent}
+use Rattle.site.specs.Site.{nodes, n}
+use Rattle.site.specs.Effects.{withMade}
+use Rattle.rows.specs.Named.{Beginning, named, Of}
+use Rattle.sequences.specs.History.{Accepted, isAt, atNode, lastReport}
+use Rattle.sequences.specs.Demand.{Correct, Earlier, here, further, Shared}
+use Rattle.sequences.specs.Holding.{from-all}
+use Rattle.sequences.specs.Fitting.{doneWith, Fits, FitsAfter, sentBy}
+use Rattle.sequences.specs.Sharing.{Near, finished-shares}
+use Rattle.sequences.specs.Passing.{Placed}
+
+abbrev pub FitsNode : ℕ → ℕ → Node → List Accepted → Type 0
+FitsNode f j node own = Fits f j (node .phase) (node .store) own
+
+-- For what the last Start gave and the steps accepted since: the site has the Start's numbers, what it knows to be made was shared by a correct
+-- node, and the record of each correct node fits.
+pub record Keeps (b : Beginning) (steps : List Accepted) (site : Site) (records : List Node) : Type 0 where
+  pub few-nodes : nodes (b .f) (b .k) ≤ room
+  pub same-f : site .f ≡ b .f
+  pub same-k : site .k ≡ b .k
+  pub same-set : site .compromised ≡ b .compromised
+  pub made : (i A : ℕ) (T : Dts) → held (site .made) A T i ≡ true → Correct b i × Earlier (Shared i A T) steps
+  pub fits : (j : ℕ) → Correct b j → FitsNode (site .f) j (getD records j wentDown) (atNode j steps)
+
+module _ (b : Beginning) (steps : List Accepted) (site : Site) (records : List Node) (keeps : Keeps b steps site records) where
+  pub correct : (i : ℕ) → Placed site (length records) i → Correct b i
+  correct i p = (
+    subst (λ (m : ℕ). i < m) (ap₂ nodes (keeps .same-f) (keeps .same-k)) (p .is-node),
+    subst (λ (c : ℕ). isIn c i ≡ false) (keeps .same-set) (p .is-correct),
+  )
+
+  -- a step at no node: what the site knows to be made was made already
+  pub elsewhere : (a : Accepted) (next : Site) → ((j : ℕ) → isAt j a ≡ false) → next .f ≡ site .f → next .k ≡ site .k → next .compromised ≡ site .compromised
+      → ((i A : ℕ) (T : Dts) → held (next .made) A T i ≡ true → held (site .made) A T i ≡ true) → Keeps b (a ∷ steps) next records
+  elsewhere a next away ef ek es old =
+      record {
+        few-nodes = keeps .few-nodes;
+        same-f = ef ∙ keeps .same-f;
+        same-k = ek ∙ keeps .same-k;
+        same-set = es ∙ keeps .same-set;
+        made = λ i A T h. let q = keeps .made i A T (old i A T h) in (q .0, further (q .1));
+        fits = λ j c.
+            subst (λ (f : ℕ). FitsNode f j (getD records j wentDown) (atNode j (a ∷ steps))) (sym ef)
+            (subst (λ (x : Bool). FitsNode (site .f) j (getD records j wentDown) (cond x (a ∷ atNode j steps) (atNode j steps))) (sym (away j)) (keeps .fits j c));
+      }
+
+  -- a step at node i
+  pub at-node : (i : ℕ) (a : Accepted) (next : Site) (node : Node) → ((j : ℕ) → isAt j a ≡ eqb i j) → Placed site (length records) i
+      → next .f ≡ site .f → next .k ≡ site .k → next .compromised ≡ site .compromised
+      → ((k A : ℕ) (T : Dts) → held (next .made) A T k ≡ true → ((eqb k i ≡ true) × Shared i A T a steps) ⊎ (held (site .made) A T k ≡ true))
+      → FitsNode (site .f) i node (a ∷ atNode i steps) → Keeps b (a ∷ steps) next (set records i node)
+  at-node i a next node there p ef ek es source new =
+      record {
+        few-nodes = keeps .few-nodes;
+        same-f = ef ∙ keeps .same-f;
+        same-k = ek ∙ keeps .same-k;
+        same-set = es ∙ keeps .same-set;
+        made = λ k A T h. known k A T (source k A T h);
+        fits = λ j c.
+            subst (λ (f : ℕ). FitsNode f j (getD (set records i node) j wentDown) (atNode j (a ∷ steps))) (sym ef)
+            (subst (λ (x : Bool). FitsNode (site .f) j (getD (set records i node) j wentDown) (cond x (a ∷ atNode j steps) (atNode j steps))) (sym (there j))
+            (one j c (eqb i j) refl));
+      }
+    where
+      known : (k A : ℕ) (T : Dts) → ((eqb k i ≡ true) × Shared i A T a steps) ⊎ (held (site .made) A T k ≡ true) → Correct b k × Earlier (Shared k A T) (a ∷ steps)
+      known k A T (inl h) =
+          let q : k ≡ i = eqb-true k i (h .0) in
+          subst (λ (x : ℕ). Correct b x × Earlier (Shared x A T) (a ∷ steps)) (sym q) (correct i p, here (h .1))
+      known k A T (inr h) = let q = keeps .made k A T h in (q .0, further (q .1))
+
+      one : (j : ℕ) → Correct b j → (x : Bool) → eqb i j ≡ x → FitsNode (site .f) j (getD (set records i node) j wentDown) (cond x (a ∷ atNode j steps) (atNode j steps))
+      one j c true e =
+          let q : i ≡ j = eqb-true i j e in
+          subst (λ (x : ℕ). FitsNode (site .f) x (getD (set records i node) x wentDown) (a ∷ atNode x steps)) q
+          (subst (λ (x : Node). FitsNode (site .f) i x (a ∷ atNode i steps)) (sym (getD-set-same records i node wentDown (p .is-lent))) new)
+      one j c false e =
+          subst (λ (x : Node). FitsNode (site .f) j x (atNode j steps)) (sym (getD-set-other records i j node wentDown (λ (d : j ≡ i). eqb-false i j e (sym d))))
+          (keeps .fits j c)
+
+  -- an event at node i, with the shares that it makes
+  pub acts : (i : ℕ) (step : Step) (event : Acted) → ((j : ℕ) (sent : Sent) → isAt j (doneWith step sent) ≡ eqb i j) → Placed site (length records) i
+      → ((A : ℕ) (T : Dts) → has (listed (event .shares)) A T ≡ true
+      → Of (named step .clock) (λ t. Near t T) × ((sent : Sent) → lastReport (doneWith step sent ∷ atNode i steps) ≡ some A))
+      → FitsAfter (site .f) i step event (atNode i steps)
+      → Keeps b (doneWith step (sentBy (site .f) i (finished event i (site .f))) ∷ steps) (withMade site (putAll (site .made) i (finished event i (site .f) .shares)))
+      (set records i (finished event i (site .f) .node))
+  acts i step event there p shares new =
+      at-node i (doneWith step sent) (withMade site (putAll (site .made) i (ended .shares))) (ended .node) (λ j. there j sent) p refl refl refl
+      (λ k A T h. source k A T (from-all (site .made) i (ended .shares) A T k h)) new
+    where
+      ended : Acted
+      ended = finished event i (site .f)
+
+      sent : Sent
+      sent = sentBy (site .f) i ended
+
+      source : (k A : ℕ) (T : Dts) → ((has (listed (ended .shares)) A T ≡ true) × (eqb k i ≡ true)) ⊎ (held (site .made) A T k ≡ true)
+          → ((eqb k i ≡ true) × Shared i A T (doneWith step sent) steps) ⊎ (held (site .made) A T k ≡ true)
+      source k A T (inr h) = inr h
+      source k A T (inl h) =
+          let own : isAt i (doneWith step sent) ≡ true = there i sent ∙ eq-eqb i i refl in
+          let q = shares A T (ap (λ (sh : Pairs). has (listed sh) A T) (sym (finished-shares event i (site .f))) ∙ h .0) in
+          inl (
+            h .1,
+            record {
+              by-node = own;
+              shared = h .0;
+              at-clock = q .0;
+              reported = ap (λ (x : Bool). lastReport (cond x (doneWith step sent ∷ atNode i steps) (atNode i steps))) own ∙ q .1 sent;
+            },
+          )
+
+  -- an event that makes no share
+  pub acts-quietly : (i : ℕ) (step : Step) (event : Acted) → ((j : ℕ) (sent : Sent) → isAt j (doneWith step sent) ≡ eqb i j) → Placed site (length records) i
+      → event .shares ≡ Zero → FitsAfter (site .f) i step event (atNode i steps)
+      → Keeps b (doneWith step (sentBy (site .f) i (finished event i (site .f))) ∷ steps) (withMade site (putAll (site .made) i (finished event i (site .f) .shares)))
+      (set records i (finished event i (site .f) .node))
+  acts-quietly i step event there p zero new =
+      acts i step event there p (λ A T h. absurd (false≢true (sym (ap (λ (sh : Pairs). has (listed sh) A T) zero) ∙ h))) new

@@ -1,0 +1,13 @@
+-- Every sequence of steps: what has happened in it (History), what is promised (Demand), and the proofs.
+pub mod History
+pub mod Moments
+pub mod Demand
+pub mod Holding
+pub mod Fitting
+pub mod Keeping
+pub mod Sharing
+pub mod Passing
+pub mod Keeps
+pub mod Reaching
+pub mod Rising
+pub mod Proved

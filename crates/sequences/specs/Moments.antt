@@ -1,0 +1,45 @@
+-- A site with its table, and every sequence of steps, "each given the site and table that the last one left".
+use Prim.Native.Nat.{ℕ}
+use mathlib.Core.Path.{_≡_}
+use mathlib.Core.Bool.{Bool, true}
+use mathlib.Core.List.{List, [], _∷_}
+use lib.ListN.{getD}
+use Rattle.time.specs.declared.Dts.{Dts}
+use Rattle.store.specs.Held.{held}
+use Rattle.node.specs.declared.Node.{Node}
+use Rattle.node.specs.Events.{wentDown}
+use Rattle.steps.specs.declared.Step.{Step}
+use Rattle.site.specs.declared.Site.{Site}
+use Rattle.site.specs.declared.Answer.{Answer}
+use Rattle.lent.specs.Lent.{outOf, tableAfter}
+use Rattle.lent.specs.LentLaws.{isDone}
+use Rattle.sequences.specs.History.{Entry}
+
+pub record Moment : Type 0 where
+  pub site : Site
+  pub records : List Node
+
+abbrev pub answerTo : Moment → Step → Answer
+answerTo m step = outOf (m .site) (m .records) step .answer
+
+abbrev pub after : Moment → Step → Moment
+after m step = record { site = outOf (m .site) (m .records) step .site; records = tableAfter (m .site) (m .records) step }
+
+abbrev pub entry : Moment → Step → Entry
+entry m step = record { step = step; answer = answerTo m step }
+
+-- A history leads to a moment: from any site and any table whatever, by any steps, accepted and refused.
+pub data Reached : List Entry → Moment → Type 0 where
+  from : (m : Moment) → Reached [] m
+  then : {h : List Entry} {m : Moment} → Reached h m → (step : Step) → Reached (entry m step ∷ h) (after m step)
+
+-- the step is accepted at this moment
+abbrev pub Accepts : Moment → Step → Type 0
+Accepts m step = isDone (answerTo m step) ≡ true
+
+-- the record of node j, and what that node holds
+abbrev pub recordAt : Moment → ℕ → Node
+recordAt m j = getD (m .records) j wentDown
+
+abbrev pub holds : Moment → ℕ → ℕ → Dts → ℕ → Bool
+holds m j A T i = held (recordAt m j .store) A T i

@@ -1,0 +1,170 @@
+-- The third demand holds.
+use Prim.Native.Nat.{ℕ, zero, suc, _+_, _-_, _^_, _≤_, _<_}
+use mathlib.Core.Path.{_≡_, refl, sym, ap, ap₂, subst, _∙_}
+use mathlib.Core.Bool.{Bool, true, false, _&&_, _||_, cond, false≢true, true≢false}
+use mathlib.Core.List.{List, [], _∷_}
+use mathlib.Core.Option.{Option, some}
+use native.Mathlib.Nat.{le-refl}
+use native.Mathlib.Omega.{arith}
+use native.Mathlib.Decide.{le-ind}
+use lib.Dec.{leb, ltb}
+use lib.ListN.{length}
+use borrow.Author.Tests.{leb-true, ltb-true, ltb-false, lt-leb}
+use Rattle.refusals.specs.Bools.{and-false}
+use Rattle.refusals.specs.Tests.{refusal, done-passed}
+use Rattle.time.specs.declared.Dts.{Dts}
+use Rattle.time.specs.Fresh.{fresh, window}
+use Rattle.senders.specs.Sets.{count, tally, both, count-ext, count-within, outside}
+use Rattle.senders.specs.Masks.{isIn, size, room}
+use Rattle.senders.specs.MaskLaws.{in-together}
+use Rattle.store.specs.declared.Store.{Store}
+use Rattle.store.specs.Store.{sendersOf}
+use Rattle.store.specs.Held.{held}
+use Rattle.store.specs.EarliestLaws.{earliest-nothing}
+use Rattle.pairs.specs.declared.Pair.{Pair}
+use Rattle.pairs.specs.Pair.{has}
+use Rattle.node.specs.declared.Learned.{Learned}
+use Rattle.node.specs.declared.Record.{Record}
+use Rattle.node.specs.declared.Phase.{Phase}
+use Rattle.node.specs.declared.Phase.the-variants.{Starting, Running, Down as NotUp}
+use Rattle.node.specs.State.{attempts}
+use Rattle.node.specs.Asked.{isRunning}
+use Rattle.steps.specs.declared.Step.{Step}
+use Rattle.steps.specs.declared.Step.the-variants.{Command}
+use Rattle.site.specs.declared.Site.{Site}
+use Rattle.site.specs.Site.{nodes}
+use Rattle.site.specs.Tests.{counted, verdict, commandTests}
+use Rattle.site.specs.Steps.{testsOf}
+use Rattle.lent.specs.Lent.{actor, recordOf, outOf}
+use Rattle.lent.specs.LentLaws.{isDone, by-tests}
+use Rattle.rows.specs.Named.{report, ack, query, Beginning}
+use Rattle.sequences.specs.History.{Entry, Accepted, accepted, atNode, clock, life, any, runs, deliveries, freshAtClock}
+use Rattle.sequences.specs.Moments.{Moment, Reached, Accepts, recordAt, holds}
+use Rattle.sequences.specs.Demand.{Correct, Always, SharedByACorrectNode, StampsRise, RunsAsTold, HeldExactly, NoneLeft, OneSendersOwn}
+use Rattle.sequences.specs.Fitting.{lastClock, known, Fits, StartingFits, RunningFits}
+use Rattle.sequences.specs.Passing.{each-passed, left, sound}
+use Rattle.sequences.specs.Keeps.{Keeps}
+use Rattle.sequences.specs.Reaching.{reached-keeps}
+use Rattle.sequences.specs.Rising.{each-so, reached-risen}
+
+-- an accepted step has passed its tests
+accepted-passed : (m : Moment) (step : Step) → Accepts m step → refusal (testsOf (m .site) (length (m .records)) (recordOf (actor step) (m .records)) step) ≡ 0
+unfolding outOf
+accepted-passed m step =
+    by-tests
+    (λ out. isDone (out .answer) ≡ true → refusal (testsOf (m .site) (length (m .records)) (recordOf (actor step) (m .records)) step) ≡ 0)
+    (m .site) (length (m .records)) (recordOf (actor step) (m .records)) step (λ e done. e) (λ number done. absurd (false≢true done))
+
+-- ---- 1
+
+-- "the compromised nodes, together with the correct nodes that have shared (A, T) since Start, number at least f+1": one of them is correct
+pub vouched : (site : Site) (A : ℕ) (T : Dts) → size (site .compromised) ≤ site .f → verdict site A T ≡ true
+    → (i : ℕ) × (isIn (site .compromised) i ≡ false) × (held (site .made) A T i ≡ true)
+unfolding size held
+vouched site A T few says =
+    let enough : site .f + 1 ≤ count room (isIn (counted site A T)) = leb-true _ _ says in
+    let shared = count-within room (both (isIn (counted site A T)) (isIn (site .compromised))) (isIn (site .compromised)) (λ i l e. second (isIn (counted site A T) i) (isIn (site .compromised) i) e) in
+    let found = outside room (isIn (counted site A T)) (isIn (site .compromised)) (omega (arith, enough, shared, few)) in
+    let either = sym (in-together (site .compromised) (sendersOf (site .made) A T) (found .0)) ∙ found .2 in
+    (found .0, found .3, sym (ap (λ (x : Bool). x || isIn (sendersOf (site .made) A T) (found .0)) (found .3)) ∙ either)
+  where
+    second : (a b : Bool) → (a && b) ≡ true → b ≡ true
+    second true b e = e
+    second false b e = absurd (false≢true e)
+
+pub shared-by-a-correct-node : Always SharedByACorrectNode
+unfolding testsOf
+shared-by-a-correct-node h m r b q t A T taken =
+    let ok = done-passed (commandTests (m .site) (length (m .records)) t A T) refl (accepted-passed m (Command t A T) taken) in
+    let keeps = reached-keeps r b q in
+    let whole = sound (m .site) (length (m .records)) (each-passed 0 _ ok) in
+    let found = vouched (m .site) A T (whole .few) (each-passed 5 _ ok) in
+    let made = keeps .made (found .0) A T (found .2) in
+    (found .0, made .0, made .1)
+
+-- ---- 2
+
+pub stamps-rise : Always StampsRise
+unfolding testsOf
+stamps-rise h m r b q t A T taken =
+    let ok = done-passed (commandTests (m .site) (length (m .records)) t A T) refl (accepted-passed m (Command t A T) taken) in
+    let above : m .site .breaker .pair .stamp .0 < T .0 = ltb-true _ _ (each-passed 7 _ ok) in
+    each-so (λ U. U .0 ≤ m .site .breaker .pair .stamp .0) (λ U. U .0 < T .0) (λ U old. omega (arith, above, old)) (accepted h) (reached-risen r)
+
+-- ---- 3
+
+module _ (f j : ℕ) (s : Store) (own : List Accepted) where
+  not-yet : (l : Learned) → StartingFits f j l own → runs own ≡ false
+  not-yet l fits = ap₂ (λ (x y : Bool). x && y) (sym (fits .r-known)) (sym (fits .b-known)) ∙ fits .not-both
+
+  lifeless : life own ≡ [] → runs own ≡ false
+  lifeless e = ap (λ (l : List Accepted). any (report ∷ []) l && any (ack ∷ query ∷ []) l) e
+
+  runs-told : (p : Phase) → Fits f j p s own → isRunning (record { phase = p; store = s }) ≡ runs own
+  runs-told NotUp fits = sym (lifeless fits)
+  runs-told (Starting l) fits = sym (not-yet l fits)
+  runs-told (Running rec) fits = sym (fits .running)
+
+  held-told : (p : Phase) → Fits f j p s own → runs own ≡ true → (i A : ℕ) (T : Dts)
+      → held s A T i ≡ (has (deliveries i j own) A T && freshAtClock T (clock own))
+  held-told NotUp fits e i A T = absurd (false≢true (sym (lifeless fits) ∙ e))
+  held-told (Starting l) fits e i A T = absurd (false≢true (sym (not-yet l fits) ∙ e))
+  held-told (Running rec) fits e i A T =
+      fits .holding i A T ∙ ap (λ (c : Option Dts). has (deliveries i j own) A T && freshAtClock T c) (sym (fits .now))
+
+pub runs-as-told : Always RunsAsTold
+runs-as-told h m r b q j c =
+    runs-told (m .site .f) j (recordAt m j .store) (atNode j (accepted h)) (recordAt m j .phase) (reached-keeps r b q .fits j c)
+
+pub held-exactly : Always HeldExactly
+held-exactly h m r b q j c e =
+    held-told (m .site .f) j (recordAt m j .store) (atNode j (accepted h)) (recordAt m j .phase) (reached-keeps r b q .fits j c) e
+
+pub one-senders-own : OneSendersOwn
+one-senders-own h h′ m m′ r r′ b b′ q q′ j c c′ e e′ i same-deliveries same-clock A T =
+    held-exactly h m r b q j c e i A T
+    ∙ ap₂ (λ (ps : List Pair) (t : Option Dts). has ps A T && freshAtClock T t) same-deliveries same-clock
+    ∙ sym (held-exactly h′ m′ r′ b′ q′ j c′ e′ i A T)
+
+-- ---- 4
+
+count-more : (n m : ℕ) (p : ℕ → Bool) → n ≤ m → count n p ≤ count m p
+unfolding count
+count-more n m p l = le-ind (λ (k : ℕ). count n p ≤ count k p) (le-refl (count n p)) (λ k g e. step (p k) (count k p) e) m l
+  where
+    step : (x : Bool) (c : ℕ) → count n p ≤ c → count n p ≤ tally x c
+    step true c e = omega arith
+    step false c e = e
+
+count-none : (n : ℕ) (p : ℕ → Bool) → ((i : ℕ) → p i ≡ false) → count n p ≡ 0
+unfolding count
+count-none zero p h = refl
+count-none (suc n) p h = ap (λ (x : Bool). tally x (count n p)) (h n) ∙ count-none n p h
+
+few-held : (f j : ℕ) (rec : Record) (s : Store) (own : List Accepted) (n : ℕ) → n ≤ room → RunningFits f j rec s own → attempts (rec .r) (rec .b) ≡ true
+    → (T : Dts) → rec .b .stamp .0 < T .0 → count n (held s (rec .r .status) T) ≤ f
+unfolding size held
+few-held f j rec s own n l fits attempts-now T above = go (ltb (T .0) (2 ^ 32)) refl
+  where
+    go : (x : Bool) → ltb (T .0) (2 ^ 32) ≡ x → count n (held s (rec .r .status) T) ≤ f
+    go true e =
+        let few : count room (isIn (sendersOf s (rec .r .status) T)) ≤ f = earliest-nothing s (rec .r .status) (rec .b .stamp) f (fits .quiet attempts-now) T above (ltb-true _ _ e) in
+        let more = count-more n room (held s (rec .r .status) T) l in
+        omega (arith, few, more)
+    go false e =
+        let far : 2 ^ 32 ≤ T .0 = ltb-false _ _ e in
+        let late = fits .not-late in
+        let old : fresh T (s .clock) ≡ false =
+        ap (λ (x : Bool). leb (s .clock .0 - window) (T .0) && x) (lt-leb (T .0) (s .clock .0 + window) (omega (arith, far, late)))
+        ∙ and-false (leb (s .clock .0 - window) (T .0))
+        in
+        let none = count-none n (held s (rec .r .status) T) (λ i.
+        fits .holding i (rec .r .status) T ∙ ap (λ (x : Bool). has (deliveries i j own) (rec .r .status) T && x) old ∙ and-false (has (deliveries i j own) (rec .r .status) T)) in
+        omega (arith, none)
+
+pub none-left : Always NoneLeft
+none-left h m r b q j c rec is attempts-now T above =
+    let keeps = reached-keeps r b q in
+    let fits = subst (λ (p : Phase). Fits (m .site .f) j p (recordAt m j .store) (atNode j (accepted h))) is (keeps .fits j c) in
+    subst (λ (f : ℕ). count (nodes (b .f) (b .k)) (holds m j (rec .r .status) T) ≤ f) (keeps .same-f)
+    (few-held (m .site .f) j rec (recordAt m j .store) (atNode j (accepted h)) (nodes (b .f) (b .k)) (keeps .few-nodes) fits attempts-now T above)
