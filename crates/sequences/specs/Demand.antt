@@ -1,7 +1,7 @@
 -- The third demand. "Count from the last accepted start, with a fixed set of at most f compromised nodes, and take every sequence of steps, each
 -- given the site and table the last one left."
--- `Reached h m` is such a sequence: h tells its steps and answers, and m is the site and table that it leaves. `accepted h` are the steps accepted
--- since the last accepted Start, `lastStart h` is what that Start gave.
+-- `Reached first h m` is such a sequence, from any site and table whatever: h tells its steps and answers, and m is the site and table that it leaves.
+-- `accepted h` are the steps accepted since the last accepted Start, `lastStart h` is what that Start gave.
 use Prim.Native.Nat.{ℕ, _+_, _≤_, _<_}
 use mathlib.Core.Path.{_≡_}
 use mathlib.Core.Bool.{Bool, true, false, _&&_}
@@ -18,11 +18,15 @@ use Rattle.node.specs.declared.Record.{Record}
 use Rattle.node.specs.declared.Phase.the-variants.{Running}
 use Rattle.node.specs.State.{attempts}
 use Rattle.node.specs.Asked.{isRunning}
+use Rattle.steps.specs.declared.Step.{Step}
 use Rattle.steps.specs.declared.Step.the-variants.{Command}
+use Rattle.breaker.specs.Breaker.{changeAt}
+use Rattle.site.specs.declared.Sent.{Sent}
+use Rattle.site.specs.declared.Answer.the-variants.{Done}
 use Rattle.site.specs.Site.{nodes}
 use Rattle.rows.specs.Named.{command, Beginning, named, Of}
 use Rattle.sequences.specs.History.{Entry, Accepted, kindOf, lastStart, accepted, isAt, atNode, lastReport, clock, runs, deliveries, freshAtClock}
-use Rattle.sequences.specs.Moments.{Moment, Reached, Accepts, recordAt, holds}
+use Rattle.sequences.specs.Moments.{Moment, Reached, Accepts, answerTo, after, recordAt, holds}
 
 -- a correct node of the last Start's
 abbrev pub Correct : Beginning → ℕ → Type 0
@@ -82,14 +86,24 @@ module _ (h : List Entry) (m : Moment) (b : Beginning) where
       (j : ℕ) → Correct b j → (rec : Record) → recordAt m j .phase ≡ Running rec → attempts (rec .r) (rec .b) ≡ true
       → (T : Dts) → rec .b .stamp .0 < T .0 → count (nodes (b .f) (b .k)) (holds m j (rec .r .status) T) ≤ b .f
 
+  -- And what it takes for the breaker's moves, in a step at it while it runs, only by the change that an ack delivers or by a command that it sends in
+  -- that step.
+  abbrev pub MovedBySending : Type 0
+  MovedBySending =
+      (j : ℕ) → Correct b j → (step : Step) (sent : Sent) → named step .actor ≡ some j → answerTo m step ≡ Done sent
+      → (rec new : Record) → recordAt m j .phase ≡ Running rec → recordAt (after m step) j .phase ≡ Running new
+      → (new .b ≡ rec .b)
+      ⊎ (Of (named step .back) λ back. changeAt (m .site .breaker) back ≡ Yes (new .b))
+      ⊎ (has (listed (sent .commands)) (new .b .status) (new .b .stamp) ≡ true)
+
 -- The demand, for every sequence that has an accepted Start
 abbrev pub Always : (List Entry → Moment → Beginning → Type 0) → Type 0
-Always P = (h : List Entry) (m : Moment) → Reached h m → (b : Beginning) → lastStart h ≡ some b → P h m b
+Always P = (first : Moment) (h : List Entry) (m : Moment) → Reached first h m → (b : Beginning) → lastStart h ≡ some b → P h m b
 
 -- 3, for two sequences: where they agree on one sender's deliveries and on the holder's clock, they agree on what is held from it.
 abbrev pub OneSendersOwn : Type 0
 OneSendersOwn =
-    (h h′ : List Entry) (m m′ : Moment) → Reached h m → Reached h′ m′ → (b b′ : Beginning) → lastStart h ≡ some b → lastStart h′ ≡ some b′
+    (first first′ : Moment) (h h′ : List Entry) (m m′ : Moment) → Reached first h m → Reached first′ h′ m′ → (b b′ : Beginning) → lastStart h ≡ some b → lastStart h′ ≡ some b′
     → (j : ℕ) → Correct b j → Correct b′ j → runs (at h m b j) ≡ true → runs (at h′ m′ b′ j) ≡ true
     → (i : ℕ) → deliveries i j (at h m b j) ≡ deliveries i j (at h′ m′ b′ j) → clock (at h m b j) ≡ clock (at h′ m′ b′ j)
     → (A : ℕ) (T : Dts) → holds m j A T i ≡ holds m′ j A T i

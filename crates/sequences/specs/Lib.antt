@@ -10,4 +10,5 @@ pub mod Passing
 pub mod Keeps
 pub mod Reaching
 pub mod Rising
+pub mod Sending
 pub mod Proved

@@ -28,10 +28,10 @@ after m step = record { site = outOf (m .site) (m .records) step .site; records 
 abbrev pub entry : Moment → Step → Entry
 entry m step = record { step = step; answer = answerTo m step }
 
--- A history leads to a moment: from any site and any table whatever, by any steps, accepted and refused.
-pub data Reached : List Entry → Moment → Type 0 where
-  from : (m : Moment) → Reached [] m
-  then : {h : List Entry} {m : Moment} → Reached h m → (step : Step) → Reached (entry m step ∷ h) (after m step)
+-- From a first moment a history leads to another: by any steps, accepted and refused, of every kind.
+pub data Reached (first : Moment) : List Entry → Moment → Type 0 where
+  from : Reached first [] first
+  then : {h : List Entry} {m : Moment} → Reached first h m → (step : Step) → Reached first (entry m step ∷ h) (after m step)
 
 -- the step is accepted at this moment
 abbrev pub Accepts : Moment → Step → Type 0

@@ -74,7 +74,7 @@ vouched site A T few says =
 
 pub shared-by-a-correct-node : Always SharedByACorrectNode
 unfolding testsOf
-shared-by-a-correct-node h m r b q t A T taken =
+shared-by-a-correct-node first h m r b q t A T taken =
     let ok = done-passed (commandTests (m .site) (length (m .records)) t A T) refl (accepted-passed m (Command t A T) taken) in
     let keeps = reached-keeps r b q in
     let whole = sound (m .site) (length (m .records)) (each-passed 0 _ ok) in
@@ -86,7 +86,7 @@ shared-by-a-correct-node h m r b q t A T taken =
 
 pub stamps-rise : Always StampsRise
 unfolding testsOf
-stamps-rise h m r b q t A T taken =
+stamps-rise first h m r b q t A T taken =
     let ok = done-passed (commandTests (m .site) (length (m .records)) t A T) refl (accepted-passed m (Command t A T) taken) in
     let above : m .site .breaker .pair .stamp .0 < T .0 = ltb-true _ _ (each-passed 7 _ ok) in
     each-so (λ U. U .0 ≤ m .site .breaker .pair .stamp .0) (λ U. U .0 < T .0) (λ U old. omega (arith, above, old)) (accepted h) (reached-risen r)
@@ -113,18 +113,18 @@ module _ (f j : ℕ) (s : Store) (own : List Accepted) where
       fits .holding i A T ∙ ap (λ (c : Option Dts). has (deliveries i j own) A T && freshAtClock T c) (sym (fits .now))
 
 pub runs-as-told : Always RunsAsTold
-runs-as-told h m r b q j c =
+runs-as-told first h m r b q j c =
     runs-told (m .site .f) j (recordAt m j .store) (atNode j (accepted h)) (recordAt m j .phase) (reached-keeps r b q .fits j c)
 
 pub held-exactly : Always HeldExactly
-held-exactly h m r b q j c e =
+held-exactly first h m r b q j c e =
     held-told (m .site .f) j (recordAt m j .store) (atNode j (accepted h)) (recordAt m j .phase) (reached-keeps r b q .fits j c) e
 
 pub one-senders-own : OneSendersOwn
-one-senders-own h h′ m m′ r r′ b b′ q q′ j c c′ e e′ i same-deliveries same-clock A T =
-    held-exactly h m r b q j c e i A T
+one-senders-own first first′ h h′ m m′ r r′ b b′ q q′ j c c′ e e′ i same-deliveries same-clock A T =
+    held-exactly first h m r b q j c e i A T
     ∙ ap₂ (λ (ps : List Pair) (t : Option Dts). has ps A T && freshAtClock T t) same-deliveries same-clock
-    ∙ sym (held-exactly h′ m′ r′ b′ q′ j c′ e′ i A T)
+    ∙ sym (held-exactly first′ h′ m′ r′ b′ q′ j c′ e′ i A T)
 
 -- ---- 4
 
@@ -163,7 +163,7 @@ few-held f j rec s own n l fits attempts-now T above = go (ltb (T .0) (2 ^ 32)) 
         omega (arith, none)
 
 pub none-left : Always NoneLeft
-none-left h m r b q j c rec is attempts-now T above =
+none-left first h m r b q j c rec is attempts-now T above =
     let keeps = reached-keeps r b q in
     let fits = subst (λ (p : Phase). Fits (m .site .f) j p (recordAt m j .store) (atNode j (accepted h))) is (keeps .fits j c) in
     subst (λ (f : ℕ). count (nodes (b .f) (b .k)) (holds m j (rec .r .status) T) ≤ f) (keeps .same-f)

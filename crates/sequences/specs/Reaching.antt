@@ -163,9 +163,9 @@ module _ (h : List Entry) (site : Site) (records : List Node) (before : (b : Beg
 
 -- ---- every sequence
 
-pub reached-keeps : {h : List Entry} {m : Moment} → Reached h m → (b : Beginning) → lastStart h ≡ some b → Keeps b (accepted h) (m .site) (m .records)
+pub reached-keeps : {first : Moment} {h : List Entry} {m : Moment} → Reached first h m → (b : Beginning) → lastStart h ≡ some b → Keeps b (accepted h) (m .site) (m .records)
 unfolding tableAfter
-reached-keeps (from m) = λ b q. absurd (never q)
+reached-keeps from = λ b q. absurd (never q)
   where
     never : {b : Beginning} → none ≡ some b → ⊥
     never q = false≢true (ap there q)

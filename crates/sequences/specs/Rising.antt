@@ -85,6 +85,6 @@ module _ (h : List Entry) (site : Site) (records : List Node) (before : Each (No
   unfolding outOf
   risen step = by-tests (RisenBy step) site (length records) (recordOf (actor step) records) step (done step (recordOf (actor step) records)) (λ number. before)
 
-pub reached-risen : {h : List Entry} {m : Moment} → Reached h m → Each (NotAbove (m .site .breaker .pair .stamp)) (accepted h)
-reached-risen (from m) = tt
+pub reached-risen : {first : Moment} {h : List Entry} {m : Moment} → Reached first h m → Each (NotAbove (m .site .breaker .pair .stamp)) (accepted h)
+reached-risen from = tt
 reached-risen (then {h} {m} r step) = risen h (m .site) (m .records) (reached-risen r) step
