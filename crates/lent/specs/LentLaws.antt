@@ -9,7 +9,7 @@ use native.Mathlib.Omega.{arith}
 use lib.Dec.{eqb, leb}
 use lib.ListN.{length, getD, set, drop}
 use borrow.Author.Tests.{ltb-true, leb-true, eqb-true}
-use Rattle.refusals.specs.Tests.{Test, refusal, passed, done-passed}
+use Rattle.refusals.specs.Tests.{Test, refusal, passed, done-passed, each-passed}
 use Rattle.tables.specs.Tables.{table}
 use Rattle.node.specs.declared.Node.{Node}
 use Rattle.steps.specs.declared.Step.{Step}
@@ -84,13 +84,6 @@ effect-done site node (Ack i t back) = refl
 effect-done site node (Query i t) = refl
 effect-done site node (Down i) = refl
 effect-done site node (Up i) = refl
-
--- each of some tests that are passed
-each-passed : (i : ℕ) (ts : List Test) → passed ts ≡ true → getD ts i (0, true) .1 ≡ true
-unfolding passed
-each-passed i [] h = refl
-each-passed zero (t ∷ ts) h = and-eq-true-iff (t .1) (passed ts) .0 h .0
-each-passed (suc i) (t ∷ ts) h = each-passed i ts (and-eq-true-iff (t .1) (passed ts) .0 h .1)
 
 -- ---- a step that is done names a node of the table, or none
 

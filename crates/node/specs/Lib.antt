@@ -4,3 +4,4 @@ pub mod Asked
 pub mod Combining
 pub mod Events
 pub mod EventLaws
+pub mod CombiningLaws

@@ -1,11 +1,12 @@
 -- The tests of a step are a list in document 01's order, each with the number that 01 gives where it fails.
 -- The refusal is the number of the first that fails, and 0, done, where none does.
-use Prim.Native.Nat.{ℕ, _<_}
+use Prim.Native.Nat.{ℕ, zero, suc, _<_}
 use mathlib.Core.Path.{_≡_, refl, sym, ap}
 use mathlib.Core.Bool.{Bool, true, false, _&&_, cond, false≢true, and-eq-true-iff}
 use mathlib.Core.List.{List, [], _∷_, _++_}
 use native.Mathlib.Omega.{arith}
 use lib.Dec.{eqb, ltb}
+use lib.ListN.{getD}
 use borrow.Author.Tests.{ne-eqb, ltb-true}
 
 -- a number, and whether the test beside it is passed
@@ -51,6 +52,13 @@ done-passed (t ∷ ts) n e = go (t .1) e (done-passed ts (and-eq-true-iff (ltb 0
     go : (b : Bool) → cond b (refusal ts) (t .0) ≡ 0 → (refusal ts ≡ 0 → passed ts ≡ true) → (b && passed ts) ≡ true
     go true e ih = ih e
     go false e ih = absurd (not-zero (t .0) (and-eq-true-iff (ltb 0 (t .0)) (numbered ts) .0 n .0) e)
+
+-- Where every test is passed, each is.
+pub each-passed : (i : ℕ) (ts : List Test) → passed ts ≡ true → getD ts i (0, true) .1 ≡ true
+unfolding passed
+each-passed i [] h = refl
+each-passed zero (t ∷ ts) h = and-eq-true-iff (t .1) (passed ts) .0 h .0
+each-passed (suc i) (t ∷ ts) h = each-passed i ts (and-eq-true-iff (t .1) (passed ts) .0 h .1)
 
 -- Two lists of tests, one after the other.
 pub appended : (ts us : List Test) → numbered ts ≡ true → orElse (refusal ts) (refusal us) ≡ refusal (ts ++ us)

@@ -73,6 +73,21 @@ pub count-above : (n m : ℕ) (p : ℕ → Bool) → n ≤ m → ((i : ℕ) → 
 unfolding count
 count-above n m p l h = le-ind (λ (k : ℕ). count k p ≡ count n p) refl (λ k g e. ap (λ (b : Bool). tally b (count k p)) (h k g) ∙ e) m l
 
+-- Counting further counts no less.
+pub count-more : (n m : ℕ) (p : ℕ → Bool) → n ≤ m → count n p ≤ count m p
+unfolding count
+count-more n m p l = le-ind (λ (k : ℕ). count n p ≤ count k p) (le-refl (count n p)) (λ k g e. step (p k) (count k p) e) m l
+  where
+    step : (x : Bool) (c : ℕ) → count n p ≤ c → count n p ≤ tally x c
+    step true c e = omega arith
+    step false c e = e
+
+-- A set without members counts none.
+pub count-none : (n : ℕ) (p : ℕ → Bool) → ((i : ℕ) → p i ≡ false) → count n p ≡ 0
+unfolding count
+count-none zero p h = refl
+count-none (suc n) p h = ap (λ (x : Bool). tally x (count n p)) (h n) ∙ count-none n p h
+
 -- A set whose members all lie among w numbers from lo on has at most w members.
 pub count-window : (n lo w : ℕ) (p : ℕ → Bool) → ((i : ℕ) → p i ≡ true → (lo ≤ i) × (i < lo + w)) → count n p ≤ w
 unfolding count

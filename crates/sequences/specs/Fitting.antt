@@ -28,14 +28,15 @@ use Rattle.node.specs.declared.Phase.the-variants.{Starting, Running, Down as N
 use Rattle.node.specs.declared.Acted.{Acted}
 use Rattle.node.specs.State.{attempts}
 use Rattle.node.specs.Combining.{putAll, combined, finishedRunning, finished}
-use Rattle.node.specs.Events.{begun, reportShares}
+use Rattle.node.specs.CombiningLaws.{Quiet, combined-quiet, combined-r}
+use Rattle.node.specs.Events.{begun}
 use Rattle.node.specs.declared.Resend.the-variants.{Off}
 use Rattle.steps.specs.declared.Step.{Step}
 use Rattle.steps.specs.declared.Step.the-variants.{Deliver}
 use Rattle.site.specs.declared.Sent.{Sent}
 use Rattle.rows.specs.Named.{report, ack, query, named, among}
 use Rattle.sequences.specs.History.{Accepted, kindOf, lastReport, clock, life, any, runs, brought, deliveries}
-use Rattle.sequences.specs.Holding.{Near, near-fresh, fresh-same, takes-near, held-taken, has-append, has-cond, held-all, clock-all, clock-at, held-later, fresh-ahead, Quiet, combined-quiet, combined-r}
+use Rattle.sequences.specs.Holding.{Near, near-fresh, fresh-same, takes-near, held-taken, has-append, has-cond, held-all, clock-all, clock-at, held-later, fresh-ahead}
 
 -- the last clock that a step can name
 abbrev pub lastClock : ℕ

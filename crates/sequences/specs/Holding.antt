@@ -201,28 +201,3 @@ held-later s t ps A T i l e soon =
     go true false y soon keeps = refl
     go false true y soon keeps = refl
     go false false y soon keeps = refl
-
--- ---- the combining rule
-
--- nothing is left to combine
-abbrev pub Quiet : Record → Store → ℕ → Type 0
-Quiet rec store f = attempts (rec .r) (rec .b) ≡ true → earliest store (rec .r .status) (rec .b .stamp) f ≡ Nothing
-
-pub combined-quiet : (rec : Record) (store : Store) (f : ℕ) → Quiet (combined rec store f .rec) store f
-unfolding combined
-combined-quiet rec store f = go (attempts (rec .r) (rec .b)) (earliest store (rec .r .status) (rec .b .stamp) f) refl refl
-  where
-    go : (x : Bool) (e : Earliest) → attempts (rec .r) (rec .b) ≡ x → earliest store (rec .r .status) (rec .b .stamp) f ≡ e
-        → Quiet (cond x (commanded rec e) (record { rec = rec; command = No }) .rec) store f
-    go false e ex ee = λ h. absurd (false≢true (sym ex ∙ h))
-    go true Nothing ex ee = λ h. ee
-    go true (Stamp T) ex ee = λ h. absurd (false≢true (sym (simp (eq-eqb (rec .r .status) (rec .r .status) refl)) ∙ h))
-
-pub combined-r : (rec : Record) (store : Store) (f : ℕ) → combined rec store f .rec .r ≡ rec .r
-unfolding combined
-combined-r rec store f = go (attempts (rec .r) (rec .b)) (earliest store (rec .r .status) (rec .b .stamp) f)
-  where
-    go : (x : Bool) (e : Earliest) → cond x (commanded rec e) (record { rec = rec; command = No }) .rec .r ≡ rec .r
-    go false e = refl
-    go true Nothing = refl
-    go true (Stamp T) = refl

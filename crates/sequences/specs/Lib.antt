@@ -11,4 +11,5 @@ pub mod Keeps
 pub mod Reaching
 pub mod Rising
 pub mod Sending
+pub mod Started
 pub mod Proved

@@ -1,11 +1,10 @@
 -- What the tests of an accepted step say, as facts.
-use Prim.Native.Nat.{ℕ, zero, suc, _+_, _≤_, _<_}
+use Prim.Native.Nat.{ℕ, _+_, _≤_, _<_}
 use mathlib.Core.Path.{_≡_, refl, sym, _∙_}
 use mathlib.Core.Bool.{Bool, true, false, not, _&&_, _||_, cond, and-eq-true-iff, false≢true}
 use mathlib.Core.List.{List, [], _∷_}
 use native.Mathlib.Omega.{arith}
 use lib.Dec.{eqb, leb, ltb}
-use lib.ListN.{getD}
 use borrow.Author.Tests.{ltb-true, lt-ltb, leb-true, eqb-true, not-true}
 use Rattle.refusals.specs.Tests.{Test, passed}
 use Rattle.time.specs.declared.Dts.{Dts}
@@ -20,13 +19,6 @@ use Rattle.site.specs.declared.Site.{Site}
 use Rattle.site.specs.Site.{n, g, mostF, mostK, firstG, lastG, numbersSound, setsSound, siteSound, actorSound}
 use Rattle.site.specs.Tests.{isNow, isNode, isStatus}
 use Rattle.sequences.specs.Fitting.{lastClock}
-
--- each of some tests that are passed
-pub each-passed : (i : ℕ) (ts : List Test) → passed ts ≡ true → getD ts i (0, true) .1 ≡ true
-unfolding passed
-each-passed i [] h = refl
-each-passed zero (t ∷ ts) h = and-eq-true-iff (t .1) (passed ts) .0 h .0
-each-passed (suc i) (t ∷ ts) h = each-passed i ts (and-eq-true-iff (t .1) (passed ts) .0 h .1)
 
 pub left : (a b : Bool) → (a && b) ≡ true → a ≡ true
 left a b e = and-eq-true-iff a b .0 e .0
@@ -45,6 +37,7 @@ five a b c d x e = let q = four a b c d (left (a && b && c && d) x e) in (q .0, 
 
 -- what a sound site is
 pub record Sound (site : Site) (lent : ℕ) : Type 0 where
+  pub is-started : site .started ≡ true
   pub lends : n site ≤ lent
   pub most-f : site .f ≤ 4
   pub most-k : site .k ≤ 3
@@ -61,6 +54,7 @@ sound site lent e =
     (whole .3)
     in
     record {
+      is-started = whole .0;
       lends = leb-true _ _ (whole .1);
       most-f = leb-true _ _ (numbers .0);
       most-k = leb-true _ _ (numbers .1);

@@ -11,12 +11,11 @@ use lib.Dec.{leb, ltb}
 use lib.ListN.{length}
 use borrow.Author.Tests.{leb-true, ltb-true, ltb-false, lt-leb}
 use Rattle.refusals.specs.Bools.{and-false}
-use Rattle.refusals.specs.Tests.{refusal, done-passed}
+use Rattle.refusals.specs.Tests.{refusal, done-passed, each-passed}
 use Rattle.time.specs.declared.Dts.{Dts}
 use Rattle.time.specs.Fresh.{fresh, window}
-use Rattle.senders.specs.Sets.{count, tally, both, count-ext, count-within, outside}
+use Rattle.senders.specs.Sets.{count, count-more, count-none}
 use Rattle.senders.specs.Masks.{isIn, size, room}
-use Rattle.senders.specs.MaskLaws.{in-together}
 use Rattle.store.specs.declared.Store.{Store}
 use Rattle.store.specs.Store.{sendersOf}
 use Rattle.store.specs.Held.{held}
@@ -33,44 +32,21 @@ use Rattle.steps.specs.declared.Step.{Step}
 use Rattle.steps.specs.declared.Step.the-variants.{Command}
 use Rattle.site.specs.declared.Site.{Site}
 use Rattle.site.specs.Site.{nodes}
-use Rattle.site.specs.Tests.{counted, verdict, commandTests}
+use Rattle.site.specs.Tests.{commandTests}
+use Rattle.site.specs.CommandLaws.{vouched, above}
 use Rattle.site.specs.Steps.{testsOf}
-use Rattle.lent.specs.Lent.{actor, recordOf, outOf}
-use Rattle.lent.specs.LentLaws.{isDone, by-tests}
 use Rattle.rows.specs.Named.{report, ack, query, Beginning}
 use Rattle.sequences.specs.History.{Entry, Accepted, accepted, atNode, clock, life, any, runs, deliveries, freshAtClock}
 use Rattle.sequences.specs.Moments.{Moment, Reached, Accepts, recordAt, holds}
 use Rattle.sequences.specs.Demand.{Correct, Always, SharedByACorrectNode, StampsRise, RunsAsTold, HeldExactly, NoneLeft, OneSendersOwn}
 use Rattle.sequences.specs.Fitting.{lastClock, known, Fits, StartingFits, RunningFits}
-use Rattle.sequences.specs.Passing.{each-passed, left, sound}
+use Rattle.sequences.specs.Passing.{left, sound}
 use Rattle.sequences.specs.Keeps.{Keeps}
+use Rattle.sequences.specs.Started.{accepted-passed}
 use Rattle.sequences.specs.Reaching.{reached-keeps}
 use Rattle.sequences.specs.Rising.{each-so, reached-risen}
 
--- an accepted step has passed its tests
-accepted-passed : (m : Moment) (step : Step) → Accepts m step → refusal (testsOf (m .site) (length (m .records)) (recordOf (actor step) (m .records)) step) ≡ 0
-unfolding outOf
-accepted-passed m step =
-    by-tests
-    (λ out. isDone (out .answer) ≡ true → refusal (testsOf (m .site) (length (m .records)) (recordOf (actor step) (m .records)) step) ≡ 0)
-    (m .site) (length (m .records)) (recordOf (actor step) (m .records)) step (λ e done. e) (λ number done. absurd (false≢true done))
-
 -- ---- 1
-
--- "the compromised nodes, together with the correct nodes that have shared (A, T) since Start, number at least f+1": one of them is correct
-pub vouched : (site : Site) (A : ℕ) (T : Dts) → size (site .compromised) ≤ site .f → verdict site A T ≡ true
-    → (i : ℕ) × (isIn (site .compromised) i ≡ false) × (held (site .made) A T i ≡ true)
-unfolding size held
-vouched site A T few says =
-    let enough : site .f + 1 ≤ count room (isIn (counted site A T)) = leb-true _ _ says in
-    let shared = count-within room (both (isIn (counted site A T)) (isIn (site .compromised))) (isIn (site .compromised)) (λ i l e. second (isIn (counted site A T) i) (isIn (site .compromised) i) e) in
-    let found = outside room (isIn (counted site A T)) (isIn (site .compromised)) (omega (arith, enough, shared, few)) in
-    let either = sym (in-together (site .compromised) (sendersOf (site .made) A T) (found .0)) ∙ found .2 in
-    (found .0, found .3, sym (ap (λ (x : Bool). x || isIn (sendersOf (site .made) A T) (found .0)) (found .3)) ∙ either)
-  where
-    second : (a b : Bool) → (a && b) ≡ true → b ≡ true
-    second true b e = e
-    second false b e = absurd (false≢true e)
 
 pub shared-by-a-correct-node : Always SharedByACorrectNode
 unfolding testsOf
@@ -88,8 +64,8 @@ pub stamps-rise : Always StampsRise
 unfolding testsOf
 stamps-rise first h m r b q t A T taken =
     let ok = done-passed (commandTests (m .site) (length (m .records)) t A T) refl (accepted-passed m (Command t A T) taken) in
-    let above : m .site .breaker .pair .stamp .0 < T .0 = ltb-true _ _ (each-passed 7 _ ok) in
-    each-so (λ U. U .0 ≤ m .site .breaker .pair .stamp .0) (λ U. U .0 < T .0) (λ U old. omega (arith, above, old)) (accepted h) (reached-risen r)
+    let higher = above (m .site) (length (m .records)) t A T ok in
+    each-so (λ U. U .0 ≤ m .site .breaker .pair .stamp .0) (λ U. U .0 < T .0) (λ U old. omega (arith, higher, old)) (accepted h) (reached-risen r)
 
 -- ---- 3
 
@@ -127,19 +103,6 @@ one-senders-own first first′ h h′ m m′ r r′ b b′ q q′ j c c′ e e�
     ∙ sym (held-exactly first′ h′ m′ r′ b′ q′ j c′ e′ i A T)
 
 -- ---- 4
-
-count-more : (n m : ℕ) (p : ℕ → Bool) → n ≤ m → count n p ≤ count m p
-unfolding count
-count-more n m p l = le-ind (λ (k : ℕ). count n p ≤ count k p) (le-refl (count n p)) (λ k g e. step (p k) (count k p) e) m l
-  where
-    step : (x : Bool) (c : ℕ) → count n p ≤ c → count n p ≤ tally x c
-    step true c e = omega arith
-    step false c e = e
-
-count-none : (n : ℕ) (p : ℕ → Bool) → ((i : ℕ) → p i ≡ false) → count n p ≡ 0
-unfolding count
-count-none zero p h = refl
-count-none (suc n) p h = ap (λ (x : Bool). tally x (count n p)) (h n) ∙ count-none n p h
 
 few-held : (f j : ℕ) (rec : Record) (s : Store) (own : List Accepted) (n : ℕ) → n ≤ room → RunningFits f j rec s own → attempts (rec .r) (rec .b) ≡ true
     → (T : Dts) → rec .b .stamp .0 < T .0 → count n (held s (rec .r .status) T) ≤ f

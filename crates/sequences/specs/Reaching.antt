@@ -10,7 +10,7 @@ use native.Mathlib.Omega.{arith}
 use lib.Dec.{leb}
 use lib.ListN.{length, getD, set, drop}
 use borrow.Author.Tests.{ltb-true, leb-true}
-use Rattle.refusals.specs.Tests.{refusal, done-passed}
+use Rattle.refusals.specs.Tests.{refusal, done-passed, each-passed}
 use Rattle.tables.specs.Tables.{table}
 use Rattle.time.specs.declared.Dts.{Dts}
 use Rattle.time.specs.Fresh.{fresh, next}
@@ -39,7 +39,7 @@ use Rattle.sequences.specs.Moments.{Moment, Reached, from, then}
 use Rattle.sequences.specs.Fitting.{doneWith, sentBy}
 use Rattle.sequences.specs.Keeping.{keeps-report, keeps-deliver, keeps-share-timeout, keeps-resend-timeout, keeps-ack, keeps-query, keeps-down, keeps-up, fits-first}
 use Rattle.sequences.specs.Sharing.{report-shares, timeout-shares, deliver-shares, resend-shares, ack-shares, query-shares}
-use Rattle.sequences.specs.Passing.{each-passed, left, right, placed, taken, remembered-change}
+use Rattle.sequences.specs.Passing.{left, right, placed, taken, remembered-change}
 use Rattle.sequences.specs.Keeps.{FitsNode, Keeps, correct, elsewhere, at-node, acts, acts-quietly}
 
 -- ---- Start

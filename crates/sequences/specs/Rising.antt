@@ -7,7 +7,7 @@ use mathlib.Core.Option.{Option, none, some}
 use native.Mathlib.Omega.{arith}
 use lib.Dec.{leb, ltb}
 use lib.ListN.{length}
-use borrow.Author.Tests.{leb-true, leb-false, ltb-true}
+use borrow.Author.Tests.{leb-true}
 use Rattle.refusals.specs.Tests.{refusal, done-passed}
 use Rattle.time.specs.declared.Dts.{Dts}
 use Rattle.pairs.specs.declared.Pair.{Pair}
@@ -20,6 +20,7 @@ use Rattle.breaker.specs.Breaker.{larger, changed}
 use Rattle.site.specs.declared.Site.{Site}
 use Rattle.site.specs.declared.Out.{Out}
 use Rattle.site.specs.Tests.{commandTests}
+use Rattle.site.specs.CommandLaws.{above}
 use Rattle.site.specs.Effects.{ticked, act, commanded}
 use Rattle.site.specs.Steps.{testsOf, effectOf}
 use Rattle.lent.specs.Lent.{actor, recordOf, outOf}
@@ -28,7 +29,6 @@ use Rattle.rows.specs.Named.{Kind, command, isKind, named, Of}
 use Rattle.sequences.specs.History.{Entry, Accepted, kindOf, accepted}
 use Rattle.sequences.specs.Moments.{Moment, Reached, from, then}
 use Rattle.sequences.specs.Demand.{Each, Changed}
-use Rattle.sequences.specs.Passing.{each-passed}
 
 -- a change is not above a stamp
 abbrev pub NotAbove : Dts → Accepted → Type 0
@@ -75,10 +75,10 @@ module _ (h : List Entry) (site : Site) (records : List Node) (before : Each (No
   done (Up i) node e = (λ q. other _ refl q, before)
   done (Command t status T) node e =
       let ok = done-passed (commandTests site (length records) t status T) refl e in
-      let above : site .breaker .pair .stamp .0 < T .0 = ltb-true _ _ (each-passed 7 _ ok) in
+      let higher = above site (length records) t status T ok in
       let least : T .0 ≤ larger T t .0 = larger-least T t in (
         λ q. (least, λ p is. let z : larger T t .0 ≡ p .stamp .0 = ap stampOf is in omega arith),
-        each-so (λ U. U .0 ≤ site .breaker .pair .stamp .0) (λ U. U .0 ≤ larger T t .0) (λ U old. omega (arith, above, least, old)) (accepted h) before,
+        each-so (λ U. U .0 ≤ site .breaker .pair .stamp .0) (λ U. U .0 ≤ larger T t .0) (λ U old. omega (arith, higher, least, old)) (accepted h) before,
       )
 
   pub risen : (step : Step) → RisenBy step (outOf site records step)

@@ -9,7 +9,7 @@ use lib.Dec.{eqb, leb}
 use lib.ListN.{length, getD, set}
 use lib.Seq.{getD-set-same}
 use borrow.Author.Tests.{eq-eqb, leb-true}
-use Rattle.refusals.specs.Tests.{refusal, done-passed}
+use Rattle.refusals.specs.Tests.{refusal, done-passed, each-passed}
 use Rattle.time.specs.declared.Dts.{Dts}
 use Rattle.store.specs.declared.Store.{Store}
 use Rattle.store.specs.declared.Earliest.{Earliest}
@@ -32,6 +32,7 @@ use Rattle.node.specs.declared.Acted.{Acted}
 use Rattle.node.specs.declared.combining.Combined.{Combined}
 use Rattle.node.specs.State.{attempts}
 use Rattle.node.specs.Combining.{putAll, commanded, combined, followed, finishedRunning, finished}
+use Rattle.node.specs.CombiningLaws.{combined-b}
 use Rattle.node.specs.Events.{reported, reportRunning, delivered, shareTimedOut, again, resendTimedOut, later, ackRunning, acked, queried, wentDown, wentUp}
 use Rattle.steps.specs.declared.Step.{Step}
 use Rattle.steps.specs.declared.Step.the-variants.{Start, Tick, Report, Deliver, ShareTimeout, ResendTimeout, Command, Ack, Query, Down, Up}
@@ -49,25 +50,9 @@ use Rattle.lent.specs.Lent.{after as tableAfterAnswer}
 use Rattle.lent.specs.LentLaws.{by-tests, named-within}
 use Rattle.rows.specs.Named.{named, Of}
 use Rattle.sequences.specs.Demand.{Always, MovedBySending}
-use Rattle.sequences.specs.Passing.{each-passed, taken, Placed, remembered-change}
+use Rattle.sequences.specs.Passing.{taken, Placed, remembered-change}
 
 -- ---- at the node
-
--- a record's b is what it was, or the command that is sent
-combined-b : (rec : Record) (store : Store) (f : ℕ)
-    → (combined rec store f .rec .b ≡ rec .b) ⊎ (combined rec store f .command ≡ Yes (combined rec store f .rec .b))
-unfolding combined
-combined-b rec store f = go (attempts (rec .r) (rec .b)) (earliest store (rec .r .status) (rec .b .stamp) f)
-  where
-    at : Bool → Earliest → Combined
-    at x e = cond x (commanded rec e) (record { rec = rec; command = No })
-
-    go : (x : Bool) (e : Earliest)
-        → (cond x (commanded rec e) (record { rec = rec; command = No }) .rec .b ≡ rec .b)
-        ⊎ (cond x (commanded rec e) (record { rec = rec; command = No }) .command ≡ Yes (cond x (commanded rec e) (record { rec = rec; command = No }) .rec .b))
-    go false e = inl refl
-    go true Nothing = inl refl
-    go true (Stamp T) = inr refl
 
 -- at most one command is sent already
 abbrev AtMostOne : Pairs → Type 0

@@ -5,3 +5,4 @@ pub mod Parts
 pub mod Effects
 pub mod Steps
 pub mod StepLaws
+pub mod CommandLaws

@@ -1,0 +1,4 @@
+-- Runs over logs: that each is a sequence of steps (Replay), and the third demand for each (Promised), with a log in which a change is accepted (Example).
+pub mod Replay
+pub mod Promised
+pub mod Example

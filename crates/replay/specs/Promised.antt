@@ -1,0 +1,63 @@
+-- The third demand, for every run over a log. A run is told by the steps that it read, with their answers.
+use Prim.Native.Nat.{ℕ}
+use mathlib.Core.Path.{_≡_, refl}
+use mathlib.Core.Bool.{Bool}
+use mathlib.Core.List.{List, []}
+use mathlib.Core.Option.{some}
+use lib.ListN.{length}
+use Rattle.time.specs.declared.Dts.{Dts}
+use Rattle.steps.specs.declared.Step.{Step}
+use Rattle.steps.specs.declared.Step.the-variants.{Command}
+use Rattle.rows.specs.Named.{Beginning}
+use Rattle.run.specs.declared.Run.{Run}
+use Rattle.run.specs.declared.Ran.{Ran}
+use Rattle.run.specs.Turns.{begun}
+use Rattle.run.specs.Blocks.{ranOf, Block}
+use Rattle.sequences.specs.History.{Entry, lastStart}
+use Rattle.sequences.specs.Moments.{Reached, from, Accepts}
+use Rattle.sequences.specs.Demand.{SharedByACorrectNode, StampsRise, RunsAsTold, HeldExactly, NoneLeft, MovedBySending}
+use Rattle.sequences.specs.Started.{started-before}
+use Rattle.sequences.specs.Sending.{moved-by-sending}
+use Rattle.sequences.specs.Proved.{shared-by-a-correct-node, stamps-rise, runs-as-told, held-exactly, none-left}
+use Rattle.replay.specs.Replay.{momentOf, Prints, told, prints-reached, block-prints}
+
+-- the run has come about from its beginning by the steps of this history
+abbrev pub Replayed : List Entry → Run → Type 0
+Replayed h run = Reached (momentOf begun) h (momentOf run)
+
+-- What `begin` hands back has no history,
+pub at-first : Replayed [] begun
+at-first = from
+
+-- and `run_block`, given a run with a history, prints the lines of some more steps and hands back the run with those told too.
+pub one-more-block : (h : List Entry) (run : Run) → Replayed h run
+    → (log : List ℕ) (last : Bool) (before after : List ℕ) (ran : Ran) → Block run log last before after ran
+    → (steps : List Step) × Prints log run 0 steps (ranOf run log last (length before) .text) (ran .run) (ran .read) × Replayed (told (momentOf run) steps h) (ran .run)
+one-more-block h run r log last before after ran block =
+    let p = block-prints run log last before after ran block in
+    (p .0, p .1, prints-reached (p .1) r)
+
+-- So of every run:
+pub record Promised (h : List Entry) (run : Run) : Type 0 where
+  -- a change is accepted only after an accepted Start,
+  pub started-first : (t : Dts) (A : ℕ) (T : Dts) → Accepts (momentOf run) (Command t A T) → (b : Beginning) × (lastStart h ≡ some b)
+  -- and, counted from the last one, the demand's four parts hold
+  pub shared : (b : Beginning) → lastStart h ≡ some b → SharedByACorrectNode h (momentOf run) b
+  pub rising : (b : Beginning) → lastStart h ≡ some b → StampsRise h (momentOf run) b
+  pub running : (b : Beginning) → lastStart h ≡ some b → RunsAsTold h (momentOf run) b
+  pub held : (b : Beginning) → lastStart h ≡ some b → HeldExactly h (momentOf run) b
+  pub none-waits : (b : Beginning) → lastStart h ≡ some b → NoneLeft h (momentOf run) b
+  pub sent : (b : Beginning) → lastStart h ≡ some b → MovedBySending h (momentOf run) b
+
+pub promised : (h : List Entry) (run : Run) → Replayed h run → Promised h run
+unfolding begun
+promised h run r =
+    record {
+      started-first = started-before refl r;
+      shared = shared-by-a-correct-node (momentOf begun) h (momentOf run) r;
+      rising = stamps-rise (momentOf begun) h (momentOf run) r;
+      running = runs-as-told (momentOf begun) h (momentOf run) r;
+      held = held-exactly (momentOf begun) h (momentOf run) r;
+      none-waits = none-left (momentOf begun) h (momentOf run) r;
+      sent = moved-by-sending (momentOf begun) h (momentOf run) r;
+    }

@@ -1,0 +1,115 @@
+-- A run over a log is a sequence of steps, and its lines are the lines of those steps.
+use Prim.Native.Nat.{ℕ, zero, suc, _+_}
+use mathlib.Core.Path.{_≡_, refl, sym, subst}
+use mathlib.Core.Bool.{Bool, true, false, cond}
+use mathlib.Core.List.{List, [], _∷_, _++_}
+use lib.Dec.{eqb, leb}
+use lib.ListN.{length, drop}
+use Rattle.steps.specs.declared.Step.{Step}
+use Rattle.log.specs.declared.reader.Opened.{Opened}
+use Rattle.log.specs.declared.reader.Opened.the-variants.{Version, NoVersion}
+use Rattle.log.specs.declared.reader.Found.{Found}
+use Rattle.log.specs.declared.reader.Found.the-variants.{Record, End, Cut, Malformed}
+use Rattle.log.specs.Reading.{openedAs, readAt}
+use Rattle.lent.specs.Lent.{outOf, tableAfter}
+use Rattle.text.specs.Lines.{longest}
+use Rattle.run.specs.declared.Run.{Run}
+use Rattle.run.specs.declared.Ran.{Ran}
+use Rattle.run.specs.Turns.{applied, stepLine, overAfter, malformedLine, versioned, Turn, Stop, Go, malformedAt, opening, reading, openingAt, turnOf}
+use Rattle.run.specs.Blocks.{Advance, here, printed, onward, turnIn, advanced, ranOf, Block}
+use Rattle.sequences.specs.History.{Entry}
+use Rattle.sequences.specs.Moments.{Moment, entry, after, Reached, from, then}
+
+-- the site and the table of a run
+abbrev pub momentOf : Run → Moment
+momentOf run = record { site = run .site; records = run .nodes }
+
+-- From a run at a place of a block, by these steps, the first of them first, this text is printed, and the run is then that one, at that place. A step
+-- is the one that the log has there, and prints its line; the version byte prints nothing; a malformed record, or version byte, prints its line and
+-- takes no step.
+pub data Prints (log : List ℕ) : Run → ℕ → List Step → List ℕ → Run → ℕ → Type 0 where
+  nothing : {run : Run} {at : ℕ} → Prints log run at [] [] run at
+  version : {run end : Run} {at to : ℕ} {steps : List Step} {text : List ℕ} (v : ℕ) → openedAs (drop at log) ≡ Version v
+      → Prints log (versioned run v) (at + 1) steps text end to → Prints log run at steps text end to
+  malformed : {run end : Run} {at to : ℕ} {steps : List Step} {text : List ℕ} → Prints log (overAfter run) at steps text end to
+      → Prints log run at steps (malformedLine run ++ text) end to
+  line : {run end : Run} {at to : ℕ} {steps : List Step} {text : List ℕ} (step : Step) (next : ℕ) → readAt (run .version) log at ≡ Record step next
+      → Prints log (applied run step) next steps text end to → Prints log run at (step ∷ steps) (stepLine run step ++ text) end to
+
+-- a history with more steps told
+abbrev pub told : Moment → List Step → List Entry → List Entry
+told m [] h = h
+told m (step ∷ steps) h = told (after m step) steps (entry m step ∷ h)
+
+-- what is printed is of a sequence of steps, each given the site and table that the last one left
+pub prints-reached : {first : Moment} {h : List Entry} {log : List ℕ} {run end : Run} {at to : ℕ} {steps : List Step} {text : List ℕ}
+    → Prints log run at steps text end to → Reached first h (momentOf run) → Reached first (told (momentOf run) steps h) (momentOf end)
+unfolding applied overAfter
+prints-reached nothing r = r
+prints-reached (version v is p) r = prints-reached p r
+prints-reached (malformed p) r = prints-reached p r
+prints-reached (line step next is p) r = prints-reached p (then r step)
+
+-- ---- a block of a log
+
+-- the turns that there are
+data Kind (log : List ℕ) (run : Run) (at : ℕ) : Turn → Type 0 where
+  stops : Kind log run at Stop
+  opens : (v : ℕ) → openedAs (drop at log) ≡ Version v → Kind log run at (Go (versioned run v) (at + 1) [])
+  breaks : Kind log run at (Go (overAfter run) at (malformedLine run))
+  takes : (step : Step) (next : ℕ) → readAt (run .version) log at ≡ Record step next → Kind log run at (Go (applied run step) next (stepLine run step))
+
+module _ (log : List ℕ) (run : Run) (at : ℕ) (last : Bool) where
+  chosen : (b : Bool) (t u : Turn) → Kind log run at t → Kind log run at u → Kind log run at (cond b t u)
+  chosen true t u p q = p
+  chosen false t u p q = q
+
+  of-opening : (o : Opened) → openedAs (drop at log) ≡ o → Kind log run at (opening run at o)
+  of-opening (Version v) e = opens v e
+  of-opening NoVersion e = breaks
+
+  of-reading : (found : Found) → readAt (run .version) log at ≡ found → Kind log run at (reading run at last found)
+  of-reading (Record step next) e = takes step next e
+  of-reading End e = stops
+  of-reading Cut e = chosen last _ _ breaks stops
+  of-reading Malformed e = breaks
+
+  kind-of : (size put : ℕ) → Kind log run at (turnIn run log at last size put)
+  unfolding turnIn turnOf
+  kind-of size put =
+      chosen (leb (put + longest) size) _ _
+      (chosen (run .ended) _ _ stops
+      (chosen (eqb (run .version) 0) _ _
+      (chosen (leb (length log) at) _ _ (chosen last _ _ breaks stops) (of-opening (openedAs (drop at log)) refl))
+      (of-reading (readAt (run .version) log at) refl)))
+      stops
+
+abbrev Printed : List ℕ → Run → ℕ → Advance → Type 0
+Printed log run at a = (steps : List Step) × Prints log run at steps (a .text) (a .run) (a .read)
+
+onward-prints : (log : List ℕ) (run : Run) (at : ℕ) (t : Turn) → Kind log run at t → (rest : Run → ℕ → List ℕ → Advance)
+    → ((next : Run) (place : ℕ) (text : List ℕ) → Printed log next place (rest next place text)) → Printed log run at (onward t run at rest)
+onward-prints log run at t stops rest more = ([], nothing)
+onward-prints log run at t (opens v is) rest more = let p = more (versioned run v) (at + 1) [] in (p .0, version v is (p .1))
+onward-prints log run at t breaks rest more = let p = more (overAfter run) at (malformedLine run) in (p .0, malformed (p .1))
+onward-prints log run at t (takes step next is) rest more =
+    let p = more (applied run step) next (stepLine run step) in (step ∷ p .0, line step next is (p .1))
+
+advanced-prints : (turns : ℕ) (run : Run) (log : List ℕ) (at : ℕ) (last : Bool) (size put : ℕ) → Printed log run at (advanced turns run log at last size put)
+unfolding advanced
+advanced-prints zero run log at last size put = ([], nothing)
+advanced-prints (suc turns) run log at last size put =
+    onward-prints log run at (turnIn run log at last size put) (kind-of log run at last size put) _
+    (λ next place text. advanced-prints turns next log place last size (put + length text))
+
+-- What `run_block` promises says this of every block: the text at the front of the buffer is printed by steps that lead to the run that it hands back.
+pub block-prints : (run : Run) (log : List ℕ) (last : Bool) (before after : List ℕ) (ran : Ran) → Block run log last before after ran
+    → (steps : List Step) × Prints log run 0 steps (ranOf run log last (length before) .text) (ran .run) (ran .read)
+unfolding ranOf
+block-prints run log last before after ran block =
+    let p = advanced-prints (length log + 2) run log 0 last (length before) 0 in
+    let text = advanced (length log + 2) run log 0 last (length before) 0 .text in (
+      p .0,
+      subst (λ (to : ℕ). Prints log run 0 (p .0) text (ran .run) to) (sym (block .read-after))
+          (subst (λ (end : Run). Prints log run 0 (p .0) text end (advanced (length log + 2) run log 0 last (length before) 0 .read)) (sym (block .run-after)) (p .1)),
+    )
