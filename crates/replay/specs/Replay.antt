@@ -18,7 +18,7 @@ use Rattle.run.specs.declared.Ran.{Ran}
 use Rattle.run.specs.Turns.{applied, stepLine, overAfter, malformedLine, versioned, Turn, Stop, Go, malformedAt, opening, reading, openingAt, turnOf}
 use Rattle.run.specs.Blocks.{Advance, here, printed, onward, turnIn, advanced, ranOf, Block}
 use Rattle.sequences.specs.History.{Entry}
-use Rattle.sequences.specs.Moments.{Moment, entry, after, Reached, from, then}
+use Rattle.sequences.specs.Moments.{Moment, entry, afterStep, Reached, from, then}
 
 -- the site and the table of a run
 abbrev pub momentOf : Run → Moment
@@ -39,7 +39,7 @@ pub data Prints (log : List ℕ) : Run → ℕ → List Step → List ℕ → Ru
 -- a history with more steps told
 abbrev pub told : Moment → List Step → List Entry → List Entry
 told m [] h = h
-told m (step ∷ steps) h = told (after m step) steps (entry m step ∷ h)
+told m (step ∷ steps) h = told (afterStep m step) steps (entry m step ∷ h)
 
 -- what is printed is of a sequence of steps, each given the site and table that the last one left
 pub prints-reached : {first : Moment} {h : List Entry} {log : List ℕ} {run end : Run} {at to : ℕ} {steps : List Step} {text : List ℕ}

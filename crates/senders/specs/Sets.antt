@@ -2,7 +2,7 @@
 -- once over n. Nothing here speaks of bits.
 use Prim.Native.Nat.{ℕ, zero, suc, _+_, _-_, min, _≤_, _<_}
 use mathlib.Core.Path.{_≡_, refl, sym, ap, ap₂, _∙_}
-use mathlib.Core.Bool.{Bool, true, false, _&&_, false≢true}
+use mathlib.Core.Bool.{Bool, true, false, _&&_, _||_, false≢true}
 use mathlib.Core.Logic.{_⊎_, inl, inr}
 use native.Mathlib.Nat.{le-refl, not-suc-le-zero, eq-or-lt-of-le, le-of-suc-le-suc}
 use native.Mathlib.Decide.{le-ind}
@@ -116,3 +116,26 @@ outside (suc n) p c l = go (p n) (c n) refl refl (outside n p c) l
     go true false ea eb ih k = (n, le-refl (suc n), ea, eb)
     go false true ea eb ih k = up (ih k)
     go false false ea eb ih k = up (ih k)
+
+-- the members of either set
+abbrev pub either : (ℕ → Bool) → (ℕ → Bool) → ℕ → Bool
+either p q i = p i || q i
+
+-- the votes for something: of the compromised, and of whoever has shared it
+abbrev pub votes : ℕ → (ℕ → Bool) → (ℕ → Bool) → ℕ
+votes n c s = count n (either c s)
+
+-- More than f votes, at most f of them of the compromised: a node that is not compromised has shared it.
+pub vouched : (n f : ℕ) (c s : ℕ → Bool) → count n c ≤ f → f < votes n c s → (i : ℕ) × (i < n) × (s i ≡ true) × (c i ≡ false)
+vouched n f c s few enough =
+    let less = count-within n (both (either c s) c) c (λ i l e. second (either c s i) (c i) e) in
+    let found = outside n (either c s) c (omega (arith, few, enough, less)) in
+    (found .0, found .1, other (c (found .0)) (s (found .0)) (found .2) (found .3), found .3)
+  where
+    second : (a b : Bool) → (a && b) ≡ true → b ≡ true
+    second true b e = e
+    second false b e = absurd (false≢true e)
+
+    other : (a b : Bool) → (a || b) ≡ true → a ≡ false → b ≡ true
+    other true b e f = absurd (false≢true (sym f))
+    other false b e f = e

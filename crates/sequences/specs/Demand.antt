@@ -10,7 +10,7 @@ use mathlib.Core.Logic.{_⊎_}
 use mathlib.Core.Option.{Option, some}
 use Rattle.time.specs.declared.Dts.{Dts}
 use Rattle.senders.specs.Sets.{count}
-use Rattle.senders.specs.Masks.{isIn}
+use Rattle.senders.specs.Masks.{isIn, size}
 use Rattle.pairs.specs.declared.Pair.{Pair}
 use Rattle.pairs.specs.declared.Known.the-variants.{Yes}
 use Rattle.pairs.specs.Pair.{listed, has}
@@ -25,8 +25,8 @@ use Rattle.site.specs.declared.Sent.{Sent}
 use Rattle.site.specs.declared.Answer.the-variants.{Done}
 use Rattle.site.specs.Site.{nodes}
 use Rattle.rows.specs.Named.{command, Beginning, named, Of}
-use Rattle.sequences.specs.History.{Entry, Accepted, kindOf, lastStart, accepted, isAt, atNode, lastReport, clock, runs, deliveries, freshAtClock}
-use Rattle.sequences.specs.Moments.{Moment, Reached, Accepts, answerTo, after, recordAt, holds}
+use Rattle.sequences.specs.History.{Entry, Accepted, stepKind, lastStart, accepted, isAt, atNode, lastReport, clock, runs, deliveries, freshAtClock}
+use Rattle.sequences.specs.Moments.{Moment, Reached, Accepts, answerTo, afterStep, nodeAt, holds}
 
 -- a correct node of the last Start's
 abbrev pub Correct : Beginning → ℕ → Type 0
@@ -51,13 +51,17 @@ pub record Shared (i A : ℕ) (T : Dts) (a : Accepted) (before : List Accepted) 
 
 -- where the step is a change, its stamp T, and the stamp that the breaker acknowledges, are as P says
 abbrev pub Changed : (Dts → Type 0) → Accepted → Type 0
-Changed P a = kindOf a ≡ command → Of (named (a .step) .stamp) P × ((p : Pair) → a .sent .ack ≡ Yes p → P (p .stamp))
+Changed P a = stepKind a ≡ command → Of (named (a .step) .stamp) P × ((p : Pair) → a .sent .ack ≡ Yes p → P (p .stamp))
 
 -- for a history h, the moment m to which it leads, and what its last accepted Start gave
 module _ (h : List Entry) (m : Moment) (b : Beginning) where
   -- the accepted steps at node j
   abbrev pub at : ℕ → List Accepted
   at j = atNode j (accepted h)
+
+  -- "a fixed set of at most f compromised nodes": the last Start's
+  abbrev pub AtMostF : Type 0
+  AtMostF = size (b .compromised) ≤ b .f
 
   -- 1. "Each accepted change to an action at stamp T was shared earlier by a correct node whose own clock then read T or T−1 and whose relay's last
   -- accepted report was that action"
@@ -71,7 +75,7 @@ module _ (h : List Entry) (m : Moment) (b : Beginning) where
   -- 3. "What a running correct node holds from a sender follows from that sender's fresh shares delivered since the holder began running and the
   -- holder's clock, whatever the others send". A correct node runs when its history says so,
   abbrev pub RunsAsTold : Type 0
-  RunsAsTold = (j : ℕ) → Correct b j → isRunning (recordAt m j) ≡ runs (at j)
+  RunsAsTold = (j : ℕ) → Correct b j → isRunning (nodeAt m j) ≡ runs (at j)
 
   -- and then a share is held exactly when it was delivered, or made by the node itself, since the node began running, and its stamp is fresh now.
   abbrev pub HeldExactly : Type 0
@@ -83,7 +87,7 @@ module _ (h : List Entry) (m : Moment) (b : Beginning) where
   -- no running correct node is left in Attempt with such a stamp.
   abbrev pub NoneLeft : Type 0
   NoneLeft =
-      (j : ℕ) → Correct b j → (rec : Record) → recordAt m j .phase ≡ Running rec → attempts (rec .r) (rec .b) ≡ true
+      (j : ℕ) → Correct b j → (rec : Record) → nodeAt m j .phase ≡ Running rec → attempts (rec .r) (rec .b) ≡ true
       → (T : Dts) → rec .b .stamp .0 < T .0 → count (nodes (b .f) (b .k)) (holds m j (rec .r .status) T) ≤ b .f
 
   -- And what it takes for the breaker's moves, in a step at it while it runs, only by the change that an ack delivers or by a command that it sends in
@@ -91,7 +95,7 @@ module _ (h : List Entry) (m : Moment) (b : Beginning) where
   abbrev pub MovedBySending : Type 0
   MovedBySending =
       (j : ℕ) → Correct b j → (step : Step) (sent : Sent) → named step .actor ≡ some j → answerTo m step ≡ Done sent
-      → (rec new : Record) → recordAt m j .phase ≡ Running rec → recordAt (after m step) j .phase ≡ Running new
+      → (rec new : Record) → nodeAt m j .phase ≡ Running rec → nodeAt (afterStep m step) j .phase ≡ Running new
       → (new .b ≡ rec .b)
       ⊎ (Of (named step .back) λ back. changeAt (m .site .breaker) back ≡ Yes (new .b))
       ⊎ (has (listed (sent .commands)) (new .b .status) (new .b .stamp) ≡ true)

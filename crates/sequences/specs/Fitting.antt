@@ -8,11 +8,12 @@ use native.Mathlib.Omega.{arith}
 use lib.Dec.{eqb, leb, ltb}
 use borrow.Author.Tests.{le-leb}
 use Rattle.time.specs.declared.Dts.{Dts}
-use Rattle.time.specs.Fresh.{fresh, window, next, next-is}
+use Rattle.time.specs.Fresh.{fresh, window, fresh-same, fresh-ahead}
 use Rattle.senders.specs.Masks.{room}
 use Rattle.store.specs.declared.Store.{Store}
 use Rattle.store.specs.Store.{empty, put, movedTo}
 use Rattle.store.specs.Held.{held, held-empty, clock-put}
+use Rattle.store.specs.HeldLaws.{takes-near, held-taken, clock-at}
 use Rattle.pairs.specs.declared.Pair.{Pair}
 use Rattle.pairs.specs.declared.Known.{Known}
 use Rattle.pairs.specs.declared.Known.the-variants.{Yes, No}
@@ -35,33 +36,33 @@ use Rattle.steps.specs.declared.Step.{Step}
 use Rattle.steps.specs.declared.Step.the-variants.{Deliver}
 use Rattle.site.specs.declared.Sent.{Sent}
 use Rattle.rows.specs.Named.{report, ack, query, named, among}
-use Rattle.sequences.specs.History.{Accepted, kindOf, lastReport, clock, life, any, runs, brought, deliveries}
-use Rattle.sequences.specs.Holding.{Near, near-fresh, fresh-same, takes-near, held-taken, has-append, has-cond, held-all, clock-all, clock-at, held-later, fresh-ahead}
+use Rattle.sequences.specs.History.{Accepted, stepKind, lastReport, clock, life, any, runs, brought, deliveries}
+use Rattle.sequences.specs.Holding.{Near, near-fresh, has-append, has-cond, held-all, clock-all, held-later}
 
 -- the last clock that a step can name
-abbrev pub lastClock : ℕ
-lastClock = 1_000_000_001
+abbrev pub latestClock : ℕ
+latestClock = 1_000_000_001
 
 abbrev pub doneWith : Step → Sent → Accepted
 doneWith step sent = record { step = step; sent = sent }
 
-abbrev pub known : Known → Bool
-known (Yes p) = true
-known No = false
+abbrev pub isKnown : Known → Bool
+isKnown (Yes p) = true
+isKnown No = false
 
 -- for node j of a site whose threshold is f + 1
 module _ (f j : ℕ) where
   pub record StartingFits (l : Learned) (own : List Accepted) : Type 0 where
-    pub r-known : known (l .r) ≡ any (report ∷ []) (life own)
-    pub b-known : known (l .b) ≡ any (ack ∷ query ∷ []) (life own)
-    pub not-both : (known (l .r) && known (l .b)) ≡ false
+    pub r-known : isKnown (l .r) ≡ any (report ∷ []) (life own)
+    pub b-known : isKnown (l .b) ≡ any (ack ∷ query ∷ []) (life own)
+    pub not-both : (isKnown (l .r) && isKnown (l .b)) ≡ false
     pub relay : (r : Pair) → l .r ≡ Yes r → (lastReport own ≡ some (r .status)) × (r .status ≤ 1)
 
   pub record RunningFits (rec : Record) (store : Store) (own : List Accepted) : Type 0 where
     pub running : runs own ≡ true
     pub relay : (lastReport own ≡ some (rec .r .status)) × (rec .r .status ≤ 1)
     pub now : clock own ≡ some (store .clock)
-    pub not-late : store .clock .0 ≤ lastClock
+    pub not-late : store .clock .0 ≤ latestClock
     pub holding : (i A : ℕ) (T : Dts) → held store A T i ≡ (has (deliveries i j own) A T && fresh T (store .clock))
     pub soon : (i A : ℕ) (T : Dts) → has (deliveries i j own) A T ≡ true → T .0 ≤ store .clock .0 + window
     pub quiet : Quiet rec store f
@@ -91,7 +92,7 @@ module _ (f j : ℕ) where
       let a : Accepted = doneWith step sent in
       let p = and-eq-true-iff (any (report ∷ []) (life own)) (any (ack ∷ query ∷ []) (life own)) .0 e in
       rw (told .told-life sent)
-      (both (among (kindOf a) (report ∷ [])) (among (kindOf a) (ack ∷ query ∷ [])) _ _ (p .0) (p .1))
+      (both (among (stepKind a) (report ∷ [])) (among (stepKind a) (ack ∷ query ∷ [])) _ _ (p .0) (p .1))
     where
       both : (x y u v : Bool) → u ≡ true → v ≡ true → ((x || u) && (y || v)) ≡ true
       both true true u v p q = refl
@@ -99,9 +100,16 @@ module _ (f j : ℕ) where
       both false true u v p q = ap (λ (z : Bool). z && true) p
       both false false u v p q = ap (λ (z : Bool). z && v) p ∙ q
 
+  -- a node that runs has its deliveries and those of the step; one that begins has none
+  deliveries-on : (i : ℕ) (a : Accepted) (own : List Accepted) → runs own ≡ true → deliveries i j (a ∷ own) ≡ brought i j a ++ deliveries i j own
+  deliveries-on i a own e = simp e
+
+  deliveries-begin : (i : ℕ) (a : Accepted) (own : List Accepted) → runs own ≡ false → deliveries i j (a ∷ own) ≡ []
+  deliveries-begin i a own e = simp e
+
   -- A running node after an event that leaves it running: its store is what it was, at the later clock, with what the step brought.
   goes-on : (step : Step) (sent : Sent) (t : Dts) (old rec : Record) (s after : Store) (own : List Accepted)
-      → RunningFits old s own → Told step t (rec .r .status) own → after .clock ≡ t → s .clock .0 ≤ t .0 → t .0 ≤ lastClock
+      → RunningFits old s own → Told step t (rec .r .status) own → after .clock ≡ t → s .clock .0 ≤ t .0 → t .0 ≤ latestClock
       → ((i A : ℕ) (T : Dts) → held after A T i ≡ (has (brought i j (doneWith step sent)) A T || held (movedTo s t) A T i))
       → ((i A : ℕ) (T : Dts) → has (brought i j (doneWith step sent)) A T ≡ true → fresh T t ≡ true)
       → RunningFits (combined rec after f .rec) after (doneWith step sent ∷ own)
@@ -120,7 +128,7 @@ module _ (f j : ℕ) where
       }
     where
       more : (i : ℕ) → deliveries i j (doneWith step sent ∷ own) ≡ brought i j (doneWith step sent) ++ deliveries i j own
-      more i = ap (λ (x : Bool). cond x (brought i j (doneWith step sent) ++ deliveries i j own) []) (fits .running)
+      more i = deliveries-on i (doneWith step sent) own (fits .running)
 
       before : (i A : ℕ) (T : Dts) → held (movedTo s t) A T i ≡ (has (deliveries i j own) A T && fresh T t)
       before i A T = held-later s t (deliveries i j own) A T i l (fits .holding i A T) (fits .soon i A T)
@@ -149,7 +157,7 @@ module _ (f j : ℕ) where
       (sent : Sent) (i A : ℕ) (T : Dts) → has (brought i j (doneWith step sent)) A T ≡ (eqb i j && has (listed (sent .shares)) A T)
 
   pub shares-on : (step : Step) (t : Dts) (old rec : Record) (s : Store) (shares commands : Pairs) (own : List Accepted)
-      → j < room → RunningFits old s own → Told step t (rec .r .status) own → BringsOwn step → s .clock .0 ≤ t .0 → t .0 ≤ lastClock → Near t shares
+      → j < room → RunningFits old s own → Told step t (rec .r .status) own → BringsOwn step → s .clock .0 ≤ t .0 → t .0 ≤ latestClock → Near t shares
       → RunningFits (combined rec (putAll (movedTo s t) j shares) f .rec) (putAll (movedTo s t) j shares)
       (doneWith step (record { shares = shares; commands = commands; ack = No }) ∷ own)
   shares-on step t old rec s shares commands own room-for fits told brings l m near =
@@ -164,7 +172,7 @@ module _ (f j : ℕ) where
 
   pub delivers-on : (sender : ℕ) (t : Dts) (status : ℕ) (T : Dts) (rec : Record) (s : Store) (commands : Pairs) (own : List Accepted)
       → sender < room → status ≤ 1 → fresh T t ≡ true → RunningFits rec s own → Told (Deliver sender j t status T) t (rec .r .status) own
-      → s .clock .0 ≤ t .0 → t .0 ≤ lastClock
+      → s .clock .0 ≤ t .0 → t .0 ≤ latestClock
       → RunningFits (combined rec (put (movedTo s t) sender status T) f .rec) (put (movedTo s t) sender status T)
       (doneWith (Deliver sender j t status T) (record { shares = Zero; commands = commands; ack = No }) ∷ own)
   delivers-on sender t status T rec s commands own room-for is-action is-fresh fits told l m =
@@ -202,7 +210,7 @@ module _ (f j : ℕ) where
           fresh-same U T t
           (and-eq-true-iff (eqb A status) (eqb (U .0) (T .0)) .0 (and-eq-true-iff (eqb A status && eqb (U .0) (T .0)) (eqb i sender) .0 e .0) .1) is-fresh
 
-  begins-running : (step : Step) (r b : Pair) (number : Last) (t : Dts) (own : List Accepted) → runs own ≡ false → t .0 ≤ lastClock
+  begins-running : (step : Step) (r b : Pair) (number : Last) (t : Dts) (own : List Accepted) → runs own ≡ false → t .0 ≤ latestClock
       → ((sent : Sent) → clock (doneWith step sent ∷ own) ≡ some t)
       → ((sent : Sent) → true ≡ any (report ∷ []) (life (doneWith step sent ∷ own)))
       → ((sent : Sent) → true ≡ any (ack ∷ query ∷ []) (life (doneWith step sent ∷ own)))
@@ -215,8 +223,8 @@ module _ (f j : ℕ) where
         relay = rw (combined-r rec (empty t) f) (relay sent r refl);
         now = at sent;
         not-late = m;
-        holding = λ i A T. held-empty t A T i ∙ sym (ap (λ (ps : List Pair). has ps A T && fresh T t) (none-yet _));
-        soon = λ i A T e. absurd (false≢true (sym (ap (λ (ps : List Pair). has ps A T) (none-yet _)) ∙ e));
+        holding = λ i A T. held-empty t A T i ∙ sym (ap (λ (ps : List Pair). has ps A T && fresh T t) (none-yet i));
+        soon = λ i A T e. absurd (false≢true (sym (ap (λ (ps : List Pair). has ps A T) (none-yet i)) ∙ e));
         quiet = combined-quiet rec (empty t) f;
       }
     where
@@ -229,14 +237,14 @@ module _ (f j : ℕ) where
       both : {x y : Bool} → true ≡ x → true ≡ y → (x && y) ≡ true
       both p q = rw (← p) (sym q)
 
-      none-yet : (ps : List Pair) → cond (runs own) ps [] ≡ []
-      none-yet ps = ap (λ (x : Bool). cond x ps []) not-yet
+      none-yet : (i : ℕ) → deliveries i j (doneWith step sent ∷ own) ≡ []
+      none-yet i = deliveries-begin i (doneWith step sent) own not-yet
 
   -- A starting node that is told something: it runs once both are known, its store empty.
-  pub begins : (step : Step) (r b : Known) (number : Last) (t : Dts) (own : List Accepted) → runs own ≡ false → t .0 ≤ lastClock
+  pub begins : (step : Step) (r b : Known) (number : Last) (t : Dts) (own : List Accepted) → runs own ≡ false → t .0 ≤ latestClock
       → ((sent : Sent) → clock (doneWith step sent ∷ own) ≡ some t)
-      → ((sent : Sent) → known r ≡ any (report ∷ []) (life (doneWith step sent ∷ own)))
-      → ((sent : Sent) → known b ≡ any (ack ∷ query ∷ []) (life (doneWith step sent ∷ own)))
+      → ((sent : Sent) → isKnown r ≡ any (report ∷ []) (life (doneWith step sent ∷ own)))
+      → ((sent : Sent) → isKnown b ≡ any (ack ∷ query ∷ []) (life (doneWith step sent ∷ own)))
       → ((sent : Sent) (p : Pair) → r ≡ Yes p → (lastReport (doneWith step sent ∷ own) ≡ some (p .status)) × (p .status ≤ 1))
       → FitsAfter step (begun (record { r = r; b = b; number = number }) t) own
   unfolding begun finished

@@ -24,8 +24,8 @@ pub record Accepted : Type 0 where
   pub step : Step
   pub sent : Sent
 
-abbrev pub kindOf : Accepted → Kind
-kindOf a = named (a .step) .kind
+abbrev pub stepKind : Accepted → Kind
+stepKind a = named (a .step) .kind
 
 -- ---- since the last accepted Start
 
@@ -72,7 +72,7 @@ atNode j (a ∷ rest) = cond (isAt j a) (a ∷ atNode j rest) (atNode j rest)
 -- "its relay's last accepted report": the status
 abbrev pub lastReport : List Accepted → Option ℕ
 lastReport [] = none
-lastReport (a ∷ rest) = cond (isKind (kindOf a) report) (named (a .step) .status) (lastReport rest)
+lastReport (a ∷ rest) = cond (isKind (stepKind a) report) (named (a .step) .status) (lastReport rest)
 
 abbrev orElse : Option Dts → Option Dts → Option Dts
 orElse (some t) before = some t
@@ -86,12 +86,12 @@ clock (a ∷ rest) = orElse (named (a .step) .clock) (clock rest)
 -- the steps since it last went down or came up, or since Start
 abbrev pub life : List Accepted → List Accepted
 life [] = []
-life (a ∷ rest) = cond (among (kindOf a) (down ∷ up ∷ [])) [] (a ∷ life rest)
+life (a ∷ rest) = cond (among (stepKind a) (down ∷ up ∷ [])) [] (a ∷ life rest)
 
 -- one of these kinds is among the steps
 abbrev pub any : List Kind → List Accepted → Bool
 any kinds [] = false
-any kinds (a ∷ rest) = among (kindOf a) kinds || any kinds rest
+any kinds (a ∷ rest) = among (stepKind a) kinds || any kinds rest
 
 -- "When r and b are both known it runs": in this life its relay has reported, and the breaker has acknowledged or answered a query
 abbrev pub runs : List Accepted → Bool

@@ -8,13 +8,14 @@ use native.Mathlib.Omega.{arith}
 use lib.Dec.{eqb, leb, ltb}
 use borrow.Author.Tests.{eq-eqb, eqb-true, leb-true, le-leb, lt-ltb}
 use Rattle.time.specs.declared.Dts.{Dts}
-use Rattle.time.specs.Fresh.{fresh, window}
+use Rattle.time.specs.Fresh.{fresh, window, fresh-same, fresh-then}
 use Rattle.senders.specs.Masks.{room}
 use Rattle.store.specs.declared.Store.{Store}
 use Rattle.store.specs.declared.Earliest.{Earliest}
 use Rattle.store.specs.declared.Earliest.the-variants.{Stamp, Nothing}
 use Rattle.store.specs.Store.{hasPlace, put, movedTo}
-use Rattle.store.specs.Held.{held, takes, held-put, held-moved, clock-put, clock-moved}
+use Rattle.store.specs.Held.{held, held-moved, clock-put}
+use Rattle.store.specs.HeldLaws.{takes-near, held-taken, from-one, clock-at}
 use Rattle.store.specs.Earliest.{earliest}
 use Rattle.pairs.specs.declared.Pair.{Pair}
 use Rattle.pairs.specs.declared.Pairs.{Pairs}
@@ -50,9 +51,6 @@ Near t Zero = Unit {0}
 Near t (One p) = NearOne t p
 Near t (Two p q) = NearOne t p × NearOne t q
 
-pub fresh-same : (T U t : Dts) → eqb (T .0) (U .0) ≡ true → fresh U t ≡ true → fresh T t ≡ true
-fresh-same T U t e h = let p : T .0 ≡ U .0 = eqb-true (T .0) (U .0) e in rw p h
-
 one-fresh : (t : Dts) (p : Pair) (A : ℕ) (T : Dts) → NearOne t p → (eqb A (p .status) && eqb (T .0) (p .stamp .0)) ≡ true → fresh T t ≡ true
 one-fresh t p A T n e = fresh-same T (p .stamp) t (and-eq-true-iff (eqb A (p .status)) (eqb (T .0) (p .stamp .0)) .0 e .1) (n .1)
 
@@ -73,16 +71,6 @@ near-fresh t (Two p q) A T n e = go (eqb A (p .status) && eqb (T .0) (p .stamp .
     go false false ex ey e = absurd (false≢true e)
 
 -- ---- shares that are put
-
--- a store has room for what is near its clock
-pub takes-near : (s : Store) (i A : ℕ) (T : Dts) → i < room → A ≤ 1 → fresh T (s .clock) ≡ true → takes s i A T ≡ true
-unfolding takes hasPlace
-takes-near s i A T l a f = simp (lt-ltb i room l, lt-ltb A 2 (omega arith), f)
-
-pub held-taken : (s : Store) (i a : ℕ) (T : Dts) (b : ℕ) (U : Dts) (j : ℕ) → takes s i a T ≡ true
-    → held (put s i a T) b U j ≡ (eqb b a && eqb (U .0) (T .0) && eqb j i || held s b U j)
-held-taken s i a T b U j e =
-    held-put s i a T b U j ∙ ap (λ (x : Bool). x && (eqb b a && eqb (U .0) (T .0)) && eqb j i || held s b U j) e
 
 pub held-all : (s : Store) (i : ℕ) (sh : Pairs) (A : ℕ) (T : Dts) (j : ℕ) → i < room → Near (s .clock) sh
     → held (putAll s i sh) A T j ≡ (eqb j i && has (listed sh) A T || held s A T j)
@@ -130,17 +118,6 @@ clock-all s i (One p) = clock-put s i (p .status) (p .stamp)
 clock-all s i (Two p q) = clock-put (put s i (p .status) (p .stamp)) i (q .status) (q .stamp) ∙ clock-put s i (p .status) (p .stamp)
 
 -- whatever is held then was put now or held before
-pub from-one : (s : Store) (i a : ℕ) (U : Dts) (A : ℕ) (T : Dts) (j : ℕ) → held (put s i a U) A T j ≡ true
-    → (((eqb A a && eqb (T .0) (U .0)) ≡ true) × (eqb j i ≡ true)) ⊎ (held s A T j ≡ true)
-from-one s i a U A T j e =
-    go (takes s i a U) (eqb A a && eqb (T .0) (U .0)) (eqb j i) (held s A T j) (sym (held-put s i a U A T j) ∙ e)
-  where
-    go : (w x y z : Bool) → (w && x && y || z) ≡ true → ((x ≡ true) × (y ≡ true)) ⊎ (z ≡ true)
-    go true true true z e = inl (refl, refl)
-    go true true false z e = inr e
-    go true false y z e = inr e
-    go false x y z e = inr e
-
 pub from-all : (s : Store) (i : ℕ) (sh : Pairs) (A : ℕ) (T : Dts) (j : ℕ) → held (putAll s i sh) A T j ≡ true
     → ((has (listed sh) A T ≡ true) × (eqb j i ≡ true)) ⊎ (held s A T j ≡ true)
 unfolding putAll
@@ -169,22 +146,6 @@ from-all s i (Two p q) A T j e = go (from-one (put s i (p .status) (p .stamp)) i
     go (inr h) = again (from-one s i (p .status) (p .stamp) A T j h)
 
 -- ---- a later clock
-
-pub clock-at : (s : Store) (t : Dts) → s .clock .0 ≤ t .0 → movedTo s t .clock ≡ t
-clock-at s t l = ap (λ (c : ℕ). record { 0 = c }) (clock-moved s t ∙ larger)
-  where
-    larger : Prim.Native.Nat.max (s .clock .0) (t .0) ≡ t .0
-    larger = omega arith
-
--- fresh at a later clock, and not ahead of the earlier one: fresh then
-pub fresh-then : (T c t : Dts) → c .0 ≤ t .0 → T .0 ≤ c .0 + window → fresh T t ≡ true → fresh T c ≡ true
-fresh-then T c t l h e =
-    let q = and-eq-true-iff (leb (t .0 - window) (T .0)) (leb (T .0) (t .0 + window)) .0 e in
-    let low : t .0 - window ≤ T .0 = leb-true _ _ (q .0) in
-    simp (le-leb (c .0 - window) (T .0) (omega arith), le-leb (T .0) (c .0 + window) h)
-
-pub fresh-ahead : (T t : Dts) → fresh T t ≡ true → T .0 ≤ t .0 + window
-fresh-ahead T t e = leb-true _ _ (and-eq-true-iff (leb (t .0 - window) (T .0)) (leb (T .0) (t .0 + window)) .0 e .1)
 
 -- What was held of some deliveries, at a later clock.
 pub held-later : (s : Store) (t : Dts) (ps : List Pair) (A : ℕ) (T : Dts) (i : ℕ) → s .clock .0 ≤ t .0

@@ -31,19 +31,19 @@ use Rattle.steps.specs.declared.Step.the-variants.{Report, Deliver, ShareTimeou
 use Rattle.site.specs.declared.Sent.{Sent}
 use Rattle.sequences.specs.History.{Accepted, runs}
 use Rattle.sequences.specs.Holding.{Near, has-cond}
-use Rattle.sequences.specs.Fitting.{lastClock, doneWith, known, StartingFits, RunningFits, Fits, FitsAfter, Told, BringsOwn, shares-on, delivers-on, begins}
+use Rattle.sequences.specs.Fitting.{latestClock, doneWith, isKnown, StartingFits, RunningFits, Fits, FitsAfter, Told, BringsOwn, shares-on, delivers-on, begins}
 
 fresh-self : (t : Dts) → fresh t t ≡ true
 fresh-self t = simp (le-leb (t .0 - window) (t .0) (omega arith), le-leb (t .0) (t .0 + window) (omega arith))
 
-pub next-after : (t : Dts) → t .0 ≤ lastClock → next t .0 ≡ t .0 + 1
+pub next-after : (t : Dts) → t .0 ≤ latestClock → next t .0 ≡ t .0 + 1
 next-after t m = next-is t (omega arith)
 
-fresh-next : (t : Dts) → t .0 ≤ lastClock → fresh (next t) t ≡ true
+fresh-next : (t : Dts) → t .0 ≤ latestClock → fresh (next t) t ≡ true
 fresh-next t m =
     rw (next-after t m) (simp (le-leb (t .0 - window) (t .0 + 1) (omega arith), le-leb (t .0 + 1) (t .0 + window) (omega arith)))
 
-near-report : (old b : Pair) (status : ℕ) (t : Dts) → status ≤ 1 → t .0 ≤ lastClock → Near t (reportShares old (pair status t) b)
+near-report : (old b : Pair) (status : ℕ) (t : Dts) → status ≤ 1 → t .0 ≤ latestClock → Near t (reportShares old (pair status t) b)
 unfolding reportShares
 near-report old b status t a m = go (not (attempts old b) && attempts (pair status t) b)
   where
@@ -56,7 +56,7 @@ statusOf (Yes p) = p .status
 statusOf No = 0
 
 -- for node j of a site whose threshold is f + 1, its record, what the history says of it, and a clock that it takes
-module _ (f j : ℕ) (s : Store) (own : List Accepted) (t : Dts) (room-for : j < room) (l : s .clock .0 ≤ t .0) (m : t .0 ≤ lastClock) where
+module _ (f j : ℕ) (s : Store) (own : List Accepted) (t : Dts) (room-for : j < room) (l : s .clock .0 ≤ t .0) (m : t .0 ≤ latestClock) where
   abbrev at : Phase → Node
   at p = record { phase = p; store = s }
 
@@ -128,7 +128,7 @@ unfolding wentDown
 keeps-down f j own sent = refl
 
 never : {r : Pair} → No ≡ Yes r → ⊥
-never e = false≢true (ap known e)
+never e = false≢true (ap isKnown e)
 
 pub keeps-up : (f j : ℕ) (own : List Accepted) (sent : Sent) → Fits f j (wentUp .phase) (wentUp .store) (doneWith (Up j) sent ∷ own)
 unfolding wentUp

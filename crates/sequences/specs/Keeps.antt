@@ -10,7 +10,7 @@ use lib.ListN.{length, getD, set}
 use lib.Seq.{getD-set-same, getD-set-other}
 use borrow.Author.Tests.{eqb-true, eqb-false, eq-eqb}
 use Rattle.time.specs.declared.Dts.{Dts}
-use Rattle.senders.specs.Masks.{isIn, room}
+use Rattle.senders.specs.Masks.{isIn, size, room}
 use Rattle.store.specs.Held.{held}
 use Rattle.pairs.specs.declared.Pairs.{Pairs}
 use Rattle.pairs.specs.declared.Pairs.the-variants.{Zero}
@@ -29,7 +29,7 @@ use Rattle.sequences.specs.History.{Accepted, isAt, atNode, lastReport}
 use Rattle.sequences.specs.Demand.{Correct, Earlier, here, further, Shared}
 use Rattle.sequences.specs.Holding.{from-all}
 use Rattle.sequences.specs.Fitting.{doneWith, Fits, FitsAfter, sentBy}
-use Rattle.sequences.specs.Sharing.{Near, finished-shares}
+use Rattle.sequences.specs.Sharing.{AtOwnClock, finished-shares}
 use Rattle.sequences.specs.Passing.{Placed}
 
 abbrev pub FitsNode : ℕ → ℕ → Node → List Accepted → Type 0
@@ -39,6 +39,7 @@ FitsNode f j node own = Fits f j (node .phase) (node .store) own
 -- node, and the record of each correct node fits.
 pub record Keeps (b : Beginning) (steps : List Accepted) (site : Site) (records : List Node) : Type 0 where
   pub few-nodes : nodes (b .f) (b .k) ≤ room
+  pub few-compromised : size (b .compromised) ≤ b .f
   pub same-f : site .f ≡ b .f
   pub same-k : site .k ≡ b .k
   pub same-set : site .compromised ≡ b .compromised
@@ -58,6 +59,7 @@ module _ (b : Beginning) (steps : List Accepted) (site : Site) (records : List N
   elsewhere a next away ef ek es old =
       record {
         few-nodes = keeps .few-nodes;
+        few-compromised = keeps .few-compromised;
         same-f = ef ∙ keeps .same-f;
         same-k = ek ∙ keeps .same-k;
         same-set = es ∙ keeps .same-set;
@@ -75,6 +77,7 @@ module _ (b : Beginning) (steps : List Accepted) (site : Site) (records : List N
   at-node i a next node there p ef ek es source new =
       record {
         few-nodes = keeps .few-nodes;
+        few-compromised = keeps .few-compromised;
         same-f = ef ∙ keeps .same-f;
         same-k = ek ∙ keeps .same-k;
         same-set = es ∙ keeps .same-set;
@@ -103,7 +106,7 @@ module _ (b : Beginning) (steps : List Accepted) (site : Site) (records : List N
   -- an event at node i, with the shares that it makes
   pub acts : (i : ℕ) (step : Step) (event : Acted) → ((j : ℕ) (sent : Sent) → isAt j (doneWith step sent) ≡ eqb i j) → Placed site (length records) i
       → ((A : ℕ) (T : Dts) → has (listed (event .shares)) A T ≡ true
-      → Of (named step .clock) (λ t. Near t T) × ((sent : Sent) → lastReport (doneWith step sent ∷ atNode i steps) ≡ some A))
+      → Of (named step .clock) (λ t. AtOwnClock t T) × ((sent : Sent) → lastReport (doneWith step sent ∷ atNode i steps) ≡ some A))
       → FitsAfter (site .f) i step event (atNode i steps)
       → Keeps b (doneWith step (sentBy (site .f) i (finished event i (site .f))) ∷ steps) (withMade site (putAll (site .made) i (finished event i (site .f) .shares)))
       (set records i (finished event i (site .f) .node))

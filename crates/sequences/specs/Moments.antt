@@ -22,8 +22,8 @@ pub record Moment : Type 0 where
 abbrev pub answerTo : Moment → Step → Answer
 answerTo m step = outOf (m .site) (m .records) step .answer
 
-abbrev pub after : Moment → Step → Moment
-after m step = record { site = outOf (m .site) (m .records) step .site; records = tableAfter (m .site) (m .records) step }
+abbrev pub afterStep : Moment → Step → Moment
+afterStep m step = record { site = outOf (m .site) (m .records) step .site; records = tableAfter (m .site) (m .records) step }
 
 abbrev pub entry : Moment → Step → Entry
 entry m step = record { step = step; answer = answerTo m step }
@@ -31,15 +31,15 @@ entry m step = record { step = step; answer = answerTo m step }
 -- From a first moment a history leads to another: by any steps, accepted and refused, of every kind.
 pub data Reached (first : Moment) : List Entry → Moment → Type 0 where
   from : Reached first [] first
-  then : {h : List Entry} {m : Moment} → Reached first h m → (step : Step) → Reached first (entry m step ∷ h) (after m step)
+  then : {h : List Entry} {m : Moment} → Reached first h m → (step : Step) → Reached first (entry m step ∷ h) (afterStep m step)
 
 -- the step is accepted at this moment
 abbrev pub Accepts : Moment → Step → Type 0
 Accepts m step = isDone (answerTo m step) ≡ true
 
 -- the record of node j, and what that node holds
-abbrev pub recordAt : Moment → ℕ → Node
-recordAt m j = getD (m .records) j wentDown
+abbrev pub nodeAt : Moment → ℕ → Node
+nodeAt m j = getD (m .records) j wentDown
 
 abbrev pub holds : Moment → ℕ → ℕ → Dts → ℕ → Bool
-holds m j A T i = held (recordAt m j .store) A T i
+holds m j A T i = held (nodeAt m j .store) A T i

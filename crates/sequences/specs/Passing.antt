@@ -18,7 +18,7 @@ use Rattle.breaker.specs.Breaker.{breakerSound, changeAt, pairAt, most}
 use Rattle.site.specs.declared.Site.{Site}
 use Rattle.site.specs.Site.{n, g, mostF, mostK, firstG, lastG, numbersSound, setsSound, siteSound, actorSound}
 use Rattle.site.specs.Tests.{isNow, isNode, isStatus}
-use Rattle.sequences.specs.Fitting.{lastClock}
+use Rattle.sequences.specs.Fitting.{latestClock}
 
 pub left : (a b : Bool) → (a && b) ≡ true → a ≡ true
 left a b e = and-eq-true-iff a b .0 e .0
@@ -36,7 +36,7 @@ five : (a b c d x : Bool) → (a && b && c && d && x) ≡ true → (a ≡ true) 
 five a b c d x e = let q = four a b c d (left (a && b && c && d) x e) in (q .0, q .1, q .2, q .3, right (a && b && c && d) x e)
 
 -- what a sound site is
-pub record Sound (site : Site) (lent : ℕ) : Type 0 where
+pub record SoundSite (site : Site) (lent : ℕ) : Type 0 where
   pub is-started : site .started ≡ true
   pub lends : n site ≤ lent
   pub most-f : site .f ≤ 4
@@ -44,7 +44,7 @@ pub record Sound (site : Site) (lent : ℕ) : Type 0 where
   pub last-g : g site .0 ≤ 1_000_000_000
   pub few : size (site .compromised) ≤ site .f
 
-pub sound : (site : Site) (lent : ℕ) → siteSound site lent ≡ true → Sound site lent
+pub sound : (site : Site) (lent : ℕ) → siteSound site lent ≡ true → SoundSite site lent
 unfolding siteSound setsSound
 sound site lent e =
     let whole = five (site .started) (leb (n site) lent) (numbersSound site) (setsSound site (n site)) (breakerSound (site .breaker)) e in
@@ -82,13 +82,13 @@ placed site lent node i fields a b c =
     record { is-node = below; is-lent = omega arith; has-room = omega arith; room-for-node = λ k e. room-for k (ltb-true _ _ e); is-correct = not-true _ c }
 
 -- a clock that a step may name
-pub timely : (site : Site) (lent : ℕ) (node : Node) (i : ℕ) (t : Dts) → (siteSound site lent && actorSound site node i) ≡ true → isNow site t ≡ true → t .0 ≤ lastClock
+pub timely : (site : Site) (lent : ℕ) (node : Node) (i : ℕ) (t : Dts) → (siteSound site lent && actorSound site node i) ≡ true → isNow site t ≡ true → t .0 ≤ latestClock
 timely site lent node i t a b = go (eqb (t .0) (g site .0)) refl b
   where
     last : g site .0 ≤ 1_000_000_000
     last = sound site lent (left _ _ a) .last-g
 
-    go : (x : Bool) → eqb (t .0) (g site .0) ≡ x → (x || eqb (t .0) (g site .0 + 1)) ≡ true → t .0 ≤ lastClock
+    go : (x : Bool) → eqb (t .0) (g site .0) ≡ x → (x || eqb (t .0) (g site .0 + 1)) ≡ true → t .0 ≤ latestClock
     go true e h = let q : t .0 ≡ g site .0 = eqb-true _ _ e in let z = last in omega arith
     go false e h = let q : t .0 ≡ g site .0 + 1 = eqb-true _ _ h in let z = last in omega arith
 
@@ -98,7 +98,7 @@ pub record Taken (site : Site) (lent : ℕ) (node : Node) (i : ℕ) (t : Dts) (f
   pub place : Placed site lent i
   pub in-range : fields ≡ true
   pub in-phase : phase ≡ true
-  pub not-late : t .0 ≤ lastClock
+  pub not-late : t .0 ≤ latestClock
   pub not-back : node .store .clock .0 ≤ t .0
   pub others : passed more ≡ true
 

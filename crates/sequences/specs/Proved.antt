@@ -33,18 +33,21 @@ use Rattle.steps.specs.declared.Step.the-variants.{Command}
 use Rattle.site.specs.declared.Site.{Site}
 use Rattle.site.specs.Site.{nodes}
 use Rattle.site.specs.Tests.{commandTests}
-use Rattle.site.specs.CommandLaws.{vouched, above}
+use Rattle.site.specs.CommandLaws.{shared-by-one, stamp-above}
 use Rattle.site.specs.Steps.{testsOf}
 use Rattle.rows.specs.Named.{report, ack, query, Beginning}
 use Rattle.sequences.specs.History.{Entry, Accepted, accepted, atNode, clock, life, any, runs, deliveries, freshAtClock}
-use Rattle.sequences.specs.Moments.{Moment, Reached, Accepts, recordAt, holds}
-use Rattle.sequences.specs.Demand.{Correct, Always, SharedByACorrectNode, StampsRise, RunsAsTold, HeldExactly, NoneLeft, OneSendersOwn}
-use Rattle.sequences.specs.Fitting.{lastClock, known, Fits, StartingFits, RunningFits}
+use Rattle.sequences.specs.Moments.{Moment, Reached, Accepts, nodeAt, holds}
+use Rattle.sequences.specs.Demand.{Correct, Always, AtMostF, SharedByACorrectNode, StampsRise, RunsAsTold, HeldExactly, NoneLeft, OneSendersOwn}
+use Rattle.sequences.specs.Fitting.{latestClock, known, Fits, StartingFits, RunningFits}
 use Rattle.sequences.specs.Passing.{left, sound}
 use Rattle.sequences.specs.Keeps.{Keeps}
 use Rattle.sequences.specs.Started.{accepted-passed}
 use Rattle.sequences.specs.Reaching.{reached-keeps}
 use Rattle.sequences.specs.Rising.{each-so, reached-risen}
+
+pub at-most-f : Always AtMostF
+at-most-f first h m r b q = reached-keeps r b q .few-compromised
 
 -- ---- 1
 
@@ -54,7 +57,7 @@ shared-by-a-correct-node first h m r b q t A T taken =
     let ok = done-passed (commandTests (m .site) (length (m .records)) t A T) refl (accepted-passed m (Command t A T) taken) in
     let keeps = reached-keeps r b q in
     let whole = sound (m .site) (length (m .records)) (each-passed 0 _ ok) in
-    let found = vouched (m .site) A T (whole .few) (each-passed 5 _ ok) in
+    let found = shared-by-one (m .site) A T (whole .few) (each-passed 5 _ ok) in
     let made = keeps .made (found .0) A T (found .2) in
     (found .0, made .0, made .1)
 
@@ -64,7 +67,7 @@ pub stamps-rise : Always StampsRise
 unfolding testsOf
 stamps-rise first h m r b q t A T taken =
     let ok = done-passed (commandTests (m .site) (length (m .records)) t A T) refl (accepted-passed m (Command t A T) taken) in
-    let higher = above (m .site) (length (m .records)) t A T ok in
+    let higher = stamp-above (m .site) (length (m .records)) t A T ok in
     each-so (λ U. U .0 ≤ m .site .breaker .pair .stamp .0) (λ U. U .0 < T .0) (λ U old. omega (arith, higher, old)) (accepted h) (reached-risen r)
 
 -- ---- 3
@@ -90,11 +93,11 @@ module _ (f j : ℕ) (s : Store) (own : List Accepted) where
 
 pub runs-as-told : Always RunsAsTold
 runs-as-told first h m r b q j c =
-    runs-told (m .site .f) j (recordAt m j .store) (atNode j (accepted h)) (recordAt m j .phase) (reached-keeps r b q .fits j c)
+    runs-told (m .site .f) j (nodeAt m j .store) (atNode j (accepted h)) (nodeAt m j .phase) (reached-keeps r b q .fits j c)
 
 pub held-exactly : Always HeldExactly
 held-exactly first h m r b q j c e =
-    held-told (m .site .f) j (recordAt m j .store) (atNode j (accepted h)) (recordAt m j .phase) (reached-keeps r b q .fits j c) e
+    held-told (m .site .f) j (nodeAt m j .store) (atNode j (accepted h)) (nodeAt m j .phase) (reached-keeps r b q .fits j c) e
 
 pub one-senders-own : OneSendersOwn
 one-senders-own first first′ h h′ m m′ r r′ b b′ q q′ j c c′ e e′ i same-deliveries same-clock A T =
@@ -128,6 +131,6 @@ few-held f j rec s own n l fits attempts-now T above = go (ltb (T .0) (2 ^ 32)) 
 pub none-left : Always NoneLeft
 none-left first h m r b q j c rec is attempts-now T above =
     let keeps = reached-keeps r b q in
-    let fits = subst (λ (p : Phase). Fits (m .site .f) j p (recordAt m j .store) (atNode j (accepted h))) is (keeps .fits j c) in
+    let fits = subst (λ (p : Phase). Fits (m .site .f) j p (nodeAt m j .store) (atNode j (accepted h))) is (keeps .fits j c) in
     subst (λ (f : ℕ). count (nodes (b .f) (b .k)) (holds m j (rec .r .status) T) ≤ f) (keeps .same-f)
-    (few-held (m .site .f) j rec (recordAt m j .store) (atNode j (accepted h)) (nodes (b .f) (b .k)) (keeps .few-nodes) fits attempts-now T above)
+    (few-held (m .site .f) j rec (nodeAt m j .store) (atNode j (accepted h)) (nodes (b .f) (b .k)) (keeps .few-nodes) fits attempts-now T above)

@@ -14,7 +14,7 @@ use Rattle.refusals.specs.Tests.{refusal, done-passed, each-passed}
 use Rattle.tables.specs.Tables.{table}
 use Rattle.time.specs.declared.Dts.{Dts}
 use Rattle.time.specs.Fresh.{fresh, next}
-use Rattle.senders.specs.Masks.{isIn, room}
+use Rattle.senders.specs.Masks.{size, room}
 use Rattle.store.specs.Store.{movedTo}
 use Rattle.store.specs.Held.{held, held-empty, held-moved}
 use Rattle.node.specs.declared.Node.{Node}
@@ -50,12 +50,13 @@ front zero rule l j d h = absurd (not-suc-le-zero h)
 front (suc n) rule l zero d h = refl
 front (suc n) rule l (suc j) d h = front n (λ i. rule (suc i)) l j d (le-of-suc-le-suc h)
 
-starts : (records : List Node) (b : Beginning) → b .f ≤ 4 → b .k ≤ 3
+starts : (records : List Node) (b : Beginning) → b .f ≤ 4 → b .k ≤ 3 → size (b .compromised) ≤ b .f
     → Keeps b [] (startedSite (b .f) (b .k) (b .compromised) (b .status) (b .g)) (begun (nodes (b .f) (b .k)) (b .compromised) records)
 unfolding startedSite firstRecord
-starts records b most-f most-k =
+starts records b most-f most-k few =
     record {
       few-nodes = omega arith;
+      few-compromised = few;
       same-f = refl;
       same-k = refl;
       same-set = refl;
@@ -86,7 +87,7 @@ module _ (h : List Entry) (site : Site) (records : List Node) (before : (b : Beg
       let is : record { f = f; k = k; compromised = compromised; status = status; g = g₀ } ≡ b = ap (λ (o : Option Beginning). Option·getD o b) q in
       subst (λ (x : Beginning). Keeps x [] (startedSite f k compromised status g₀) (begun (nodes f k) compromised records)) is
       (starts records (record { f = f; k = k; compromised = compromised; status = status; g = g₀ }) (leb-true f 4 (each-passed 0 _ ok))
-      (leb-true k 3 (each-passed 1 _ ok)))
+      (leb-true k 3 (each-passed 1 _ ok)) (leb-true (size compromised) f (each-passed 5 _ ok)))
   done Tick e = λ b q.
       elsewhere b (accepted h) site records (before b q) _ _ (λ j. refl) refl refl refl
       (λ i A T held-now. right (fresh T (movedTo (site .made) (next (g site)) .clock)) _ (sym (held-moved (site .made) (next (g site)) A T i) ∙ held-now))

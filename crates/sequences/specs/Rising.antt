@@ -20,13 +20,13 @@ use Rattle.breaker.specs.Breaker.{larger, changed}
 use Rattle.site.specs.declared.Site.{Site}
 use Rattle.site.specs.declared.Out.{Out}
 use Rattle.site.specs.Tests.{commandTests}
-use Rattle.site.specs.CommandLaws.{above}
+use Rattle.site.specs.CommandLaws.{stamp-above}
 use Rattle.site.specs.Effects.{ticked, act, commanded}
 use Rattle.site.specs.Steps.{testsOf, effectOf}
 use Rattle.lent.specs.Lent.{actor, recordOf, outOf}
 use Rattle.lent.specs.LentLaws.{by-tests}
 use Rattle.rows.specs.Named.{Kind, command, isKind, named, Of}
-use Rattle.sequences.specs.History.{Entry, Accepted, kindOf, accepted}
+use Rattle.sequences.specs.History.{Entry, Accepted, stepKind, accepted}
 use Rattle.sequences.specs.Moments.{Moment, Reached, from, then}
 use Rattle.sequences.specs.Demand.{Each, Changed}
 
@@ -75,7 +75,7 @@ module _ (h : List Entry) (site : Site) (records : List Node) (before : Each (No
   done (Up i) node e = (λ q. other _ refl q, before)
   done (Command t status T) node e =
       let ok = done-passed (commandTests site (length records) t status T) refl e in
-      let higher = above site (length records) t status T ok in
+      let higher = stamp-above site (length records) t status T ok in
       let least : T .0 ≤ larger T t .0 = larger-least T t in (
         λ q. (least, λ p is. let z : larger T t .0 ≡ p .stamp .0 = ap stampOf is in omega arith),
         each-so (λ U. U .0 ≤ site .breaker .pair .stamp .0) (λ U. U .0 ≤ larger T t .0) (λ U old. omega (arith, higher, least, old)) (accepted h) before,

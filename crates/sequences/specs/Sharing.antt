@@ -23,7 +23,7 @@ use Rattle.node.specs.State.{attempts}
 use Rattle.node.specs.Combining.{finished, finishedPhase}
 use Rattle.node.specs.Events.{begun, reportShares, reportRunning, reported, delivered, shareTimedOut, resendTimedOut, ackRunning, acked, queried}
 use Rattle.sequences.specs.History.{Accepted, lastReport}
-use Rattle.sequences.specs.Fitting.{lastClock, Fits}
+use Rattle.sequences.specs.Fitting.{latestClock, Fits}
 use Rattle.sequences.specs.Keeping.{next-after}
 
 -- the end of an event leaves its shares
@@ -37,8 +37,8 @@ finished-shares event j f = go (event .node .phase)
     go (Running rec) = refl
 
 -- at its own clock, or one ahead
-abbrev pub Near : Dts → Dts → Type 0
-Near t T = (t .0 ≡ T .0) ⊎ (t .0 + 1 ≡ T .0)
+abbrev pub AtOwnClock : Dts → Dts → Type 0
+AtOwnClock t T = (t .0 ≡ T .0) ⊎ (t .0 + 1 ≡ T .0)
 
 one-of : (A B : ℕ) (T U : Dts) → (eqb A B && eqb (T .0) (U .0)) ≡ true → (A ≡ B) × (T .0 ≡ U .0)
 one-of A B T U e =
@@ -50,32 +50,32 @@ module _ (s : Store) (t : Dts) where
   at p = record { phase = p; store = s }
 
   -- a report shares the status that it reports,
-  pub report-shares : (p : Phase) (status number A : ℕ) (T : Dts) → t .0 ≤ lastClock → has (listed (reported (at p) t status number .shares)) A T ≡ true
-      → (A ≡ status) × Near t T
+  pub report-shares : (p : Phase) (status number A : ℕ) (T : Dts) → t .0 ≤ latestClock → has (listed (reported (at p) t status number .shares)) A T ≡ true
+      → (A ≡ status) × AtOwnClock t T
   unfolding reported reportRunning reportShares begun
   report-shares NotUp status number A T m e = absurd (false≢true e)
   report-shares (Starting learned) status number A T m e = absurd (false≢true e)
   report-shares (Running rec) status number A T m e = go (not (attempts (rec .r) (rec .b)) && attempts (pair status t) (rec .b)) e
     where
       two : (x y : Bool) → (eqb A status && eqb (T .0) (t .0)) ≡ x → (eqb A status && eqb (T .0) (next t .0)) ≡ y → (x || (y || false)) ≡ true
-          → (A ≡ status) × Near t T
+          → (A ≡ status) × AtOwnClock t T
       two true y ex ey e = let q = one-of A status T t ex in (q .0, inl (sym (q .1)))
       two false true ex ey e = let q = one-of A status T (next t) ey in (q .0, inr (sym (next-after t m) ∙ sym (q .1)))
       two false false ex ey e = absurd (false≢true e)
 
-      go : (x : Bool) → has (listed (cond x (Two (pair status t) (pair status (next t))) Zero)) A T ≡ true → (A ≡ status) × Near t T
+      go : (x : Bool) → has (listed (cond x (Two (pair status t) (pair status (next t))) Zero)) A T ≡ true → (A ≡ status) × AtOwnClock t T
       go true e = two (eqb A status && eqb (T .0) (t .0)) (eqb A status && eqb (T .0) (next t .0)) refl refl e
       go false e = absurd (false≢true e)
 
   -- a share timeout the status of the last report,
   pub timeout-shares : (f j : ℕ) (own : List Accepted) (p : Phase) (A : ℕ) (T : Dts) → Fits f j p s own → has (listed (shareTimedOut (at p) t .shares)) A T ≡ true
-      → (lastReport own ≡ some A) × Near t T
+      → (lastReport own ≡ some A) × AtOwnClock t T
   unfolding shareTimedOut
   timeout-shares f j own NotUp A T fits e = absurd (false≢true e)
   timeout-shares f j own (Starting learned) A T fits e = absurd (false≢true e)
   timeout-shares f j own (Running rec) A T fits e = go (eqb A (rec .r .status) && eqb (T .0) (t .0)) refl e
     where
-      go : (x : Bool) → (eqb A (rec .r .status) && eqb (T .0) (t .0)) ≡ x → (x || false) ≡ true → (lastReport own ≡ some A) × Near t T
+      go : (x : Bool) → (eqb A (rec .r .status) && eqb (T .0) (t .0)) ≡ x → (x || false) ≡ true → (lastReport own ≡ some A) × AtOwnClock t T
       go true ex e = let q = one-of A (rec .r .status) T t ex in (fits .relay .0 ∙ ap some (sym (q .0)), inl (sym (q .1)))
       go false ex e = absurd (false≢true e)
 

@@ -2,6 +2,7 @@
 pub mod Store
 pub mod Places
 pub mod Held
+pub mod HeldLaws
 pub mod Earliest
 pub mod EarliestLaws
 pub mod Own
