@@ -1,20 +1,28 @@
 -- Parts of the lists of tests, as the code goes through them. They are for the proofs alone.
-use Prim.Native.Nat.{ℕ}
-use mathlib.Core.Bool.{Bool, not, _&&_}
-use mathlib.Core.List.{List, [], _∷_}
+use Prim.Native.Nat.{ℕ, _+_}
+use mathlib.Core.Bool.{Bool, true, not, _&&_}
+use mathlib.Core.List.{List, [], _∷_, _++_}
 use lib.Dec.{eqb, leb, ltb}
 use Rattle.refusals.specs.Tests.{Test}
 use Rattle.time.specs.declared.Dts.{Dts}
 use Rattle.time.specs.Fresh.{fresh}
-use Rattle.senders.specs.Masks.{isIn}
+use Rattle.senders.specs.Masks.{isIn, size}
+use Rattle.steps.specs.declared.Step.{Step}
+use Rattle.steps.specs.declared.Step.the-variants.{Start, Tick, Report, Deliver, ShareTimeout, ResendTimeout, Command, Ack, Query, Down, Up}
 use Rattle.node.specs.declared.Node.{Node}
+use Rattle.node.specs.declared.Acted.{Acted}
+use Rattle.node.specs.Asked.{isDown, isStarting, isRunning, isNew, inAttempt, armed}
+use Rattle.node.specs.Events.{quiet, reported, delivered, shareTimedOut, resendTimedOut, queried}
+use Rattle.breaker.specs.declared.Breaker.{Breaker}
+use Rattle.breaker.specs.Breaker.{changeAt}
 use Rattle.site.specs.declared.Site.{Site}
-use Rattle.site.specs.Site.{siteSound, actorSound}
-use Rattle.site.specs.Tests.{isNow, isNode, isStatus, verdict}
+use Rattle.site.specs.Site.{g, lastG, actorSound}
+use Rattle.site.specs.Tests.{isNow, isNode, isStatus, verdict, canDeliver}
+use Rattle.site.specs.Effects.{ackedKnown}
 
-abbrev pub whoTests : Site → ℕ → Node → ℕ → Bool → Bool → List Test
-whoTests site lent node i fields phase =
-    (16, siteSound site lent && actorSound site node i)
+abbrev pub whoTests : Site → Node → ℕ → Bool → Bool → List Test
+whoTests site node i fields phase =
+    (16, actorSound site node i)
     ∷ (2, isNode site i && fields)
     ∷ (3, not (isIn (site .compromised) i))
     ∷ (4, phase)
@@ -23,9 +31,9 @@ whoTests site lent node i fields phase =
 abbrev pub whenTests : Site → Node → Dts → List Test
 whenTests site node t = (5, isNow site t) ∷ (6, leb (node .store .clock .0) (t .0)) ∷ []
 
-abbrev pub commandFirst : Site → ℕ → Dts → ℕ → List Test
-commandFirst site lent t status =
-    (16, siteSound site lent) ∷ (2, isStatus status) ∷ (5, isNow site t) ∷ (6, leb (site .breaker .clock .0) (t .0)) ∷ []
+abbrev pub commandFirst : Site → Dts → ℕ → List Test
+commandFirst site t status =
+    (2, isStatus status) ∷ (5, isNow site t) ∷ (6, leb (site .breaker .clock .0) (t .0)) ∷ []
 
 abbrev pub commandLast : Site → Dts → ℕ → Dts → List Test
 commandLast site t status T =
@@ -34,3 +42,47 @@ commandLast site t status T =
     ∷ (10, not (eqb status (site .breaker .pair .status)))
     ∷ (11, ltb (site .breaker .pair .stamp .0) (T .0))
     ∷ []
+
+-- what is left of a step's tests once the site is found to be sound
+abbrev pub soundTests : Site → Node → Step → List Test
+soundTests site node (Start f k compromised status g) = []
+soundTests site node Tick = (15, not (eqb (g site .0) lastG)) ∷ []
+soundTests site node (Report i t status number) =
+    whoTests site node i (isStatus status) (not (isDown node)) ++ (whenTests site node t ++ ((9, isNew node number) ∷ []))
+soundTests site node (Deliver sender i t status T) =
+    whoTests site node i (isNode site sender && isStatus status) (isRunning node) ++ (whenTests site node t ++ ((7, fresh T t) ∷ (8, canDeliver site sender status T) ∷ []))
+soundTests site node (ShareTimeout i t) = whoTests site node i true (isRunning node) ++ (whenTests site node t ++ ((12, inAttempt node) ∷ []))
+soundTests site node (ResendTimeout i t) = whoTests site node i true (isRunning node) ++ (whenTests site node t ++ ((12, armed node) ∷ []))
+soundTests site node (Command t status T) = commandFirst site t status ++ commandLast site t status T
+soundTests site node (Ack i t back) =
+    whoTests site node i (leb back 7) (not (isDown node)) ++ (whenTests site node t ++ ((13, leb (back + 1) (site .breaker .changes .count)) ∷ []))
+soundTests site node (Query i t) = whoTests site node i true (isStarting node) ++ whenTests site node t
+soundTests site node (Down i) = whoTests site node i true (not (isDown node)) ++ ((14, ltb (size (site .down)) (site .k)) ∷ [])
+soundTests site node (Up i) = whoTests site node i true (isDown node)
+
+-- the node of an event, and what the event makes of its record; a step that is no event names none, and leaves the record
+abbrev pub eventAt : Step → ℕ
+eventAt (Start f k compromised status g) = 0
+eventAt Tick = 0
+eventAt (Report i t status number) = i
+eventAt (Deliver sender i t status T) = i
+eventAt (ShareTimeout i t) = i
+eventAt (ResendTimeout i t) = i
+eventAt (Command t status T) = 0
+eventAt (Ack i t back) = i
+eventAt (Query i t) = i
+eventAt (Down i) = 0
+eventAt (Up i) = 0
+
+abbrev pub eventOf : Breaker → Node → Step → Acted
+eventOf breaker node (Start f k compromised status g) = quiet node
+eventOf breaker node Tick = quiet node
+eventOf breaker node (Report i t status number) = reported node t status number
+eventOf breaker node (Deliver sender i t status T) = delivered node t sender status T
+eventOf breaker node (ShareTimeout i t) = shareTimedOut node t
+eventOf breaker node (ResendTimeout i t) = resendTimedOut node t
+eventOf breaker node (Command t status T) = quiet node
+eventOf breaker node (Ack i t back) = ackedKnown node t (changeAt breaker back)
+eventOf breaker node (Query i t) = queried node t (breaker .pair)
+eventOf breaker node (Down i) = quiet node
+eventOf breaker node (Up i) = quiet node

@@ -13,8 +13,11 @@ use steps::Step;
 use store::Store;
 use time::Dts;
 ghost use mathlib.Core.Path.{_≡_};
+ghost use Rattle.senders.specs.Masks.{joined, without};
+ghost use Rattle.node.specs.Events.{wentDown, wentUp};
 ghost use Rattle.site.specs.Effects.{refused, done, silence, withMade, withDown, withBreaker, startedSite, firstRecord, ticked, act, ackedKnown, commanded};
-ghost use Rattle.site.specs.Steps.{stepped};
+ghost use Rattle.site.specs.Steps.{effectOf, stepped};
+ghost use Rattle.site.specs.Parts.{eventAt, eventOf};
 
 fn refuse(number: u8, site: Site, node: Node) -> Out
     ensures { λ out. ⌜ out ≡ refused number site node ⌝ }
@@ -117,99 +120,18 @@ pub fn first_record(compromised: u16, i: u8) -> Node
     }
 }
 
-pub fn start(
-    site: Site,
-    lent: usize,
-    node: Node,
-    f: u8,
-    k: u8,
-    compromised: u16,
-    status: u8,
-    g: Dts,
-) -> Out
-    ensures { λ out. ⌜ out ≡ stepped site lent node (Step.Start f k compromised status g) ⌝ }
+fn tick(site: Site, node: Node) -> Out
+    ensures { λ out. ⌜ out ≡ done silence (ticked site) node ⌝ }
 {
-    let no = refusing::refuse_start(lent, f, k, compromised, status, g);
-    if no != 0 {
-        return refuse(no, site, node);
-    }
-    let next = fresh_site(f, k, compromised, status, g);
-    done(silence(), next, node)
-}
-
-pub fn tick(site: Site, lent: usize, node: Node) -> Out
-    ensures { λ out. ⌜ out ≡ stepped site lent node Step.Tick ⌝ }
-{
-    let no = refusing::refuse_tick(site, lent);
-    if no != 0 {
-        return refuse(no, site, node);
-    }
     let old = site.made;
     let made = old.move_to(time::next(old.clock));
     let next = with_made(site, made);
     done(silence(), next, node)
 }
 
-pub fn report(site: Site, lent: usize, node: Node, i: u8, t: Dts, status: u8, number: u32) -> Out
-    ensures { λ out. ⌜ out ≡ stepped site lent node (Step.Report i t status number) ⌝ }
+fn command(site: Site, node: Node, t: Dts, status: u8, stamp: Dts) -> Out
+    ensures { λ out. ⌜ out ≡ commanded site node t status stamp ⌝ }
 {
-    let no = refusing::refuse_report(site, lent, node, i, t, status, number);
-    if no != 0 {
-        return refuse(no, site, node);
-    }
-    act(site, i, node::events::report(node, t, status, number))
-}
-
-pub fn deliver(
-    site: Site,
-    lent: usize,
-    node: Node,
-    sender: u8,
-    i: u8,
-    t: Dts,
-    status: u8,
-    stamp: Dts,
-) -> Out
-    ensures { λ out. ⌜ out ≡ stepped site lent node (Step.Deliver sender i t status stamp) ⌝ }
-{
-    let no = refusing::refuse_deliver(site, lent, node, sender, i, t, status, stamp);
-    if no != 0 {
-        return refuse(no, site, node);
-    }
-    act(
-        site,
-        i,
-        node::events::deliver(node, t, sender, status, stamp),
-    )
-}
-
-pub fn share_timeout(site: Site, lent: usize, node: Node, i: u8, t: Dts) -> Out
-    ensures { λ out. ⌜ out ≡ stepped site lent node (Step.ShareTimeout i t) ⌝ }
-{
-    let no = refusing::refuse_share_timeout(site, lent, node, i, t);
-    if no != 0 {
-        return refuse(no, site, node);
-    }
-    act(site, i, node::events::share_timeout(node, t))
-}
-
-pub fn resend_timeout(site: Site, lent: usize, node: Node, i: u8, t: Dts) -> Out
-    ensures { λ out. ⌜ out ≡ stepped site lent node (Step.ResendTimeout i t) ⌝ }
-{
-    let no = refusing::refuse_resend_timeout(site, lent, node, i, t);
-    if no != 0 {
-        return refuse(no, site, node);
-    }
-    act(site, i, node::events::resend_timeout(node, t))
-}
-
-pub fn command(site: Site, lent: usize, node: Node, t: Dts, status: u8, stamp: Dts) -> Out
-    ensures { λ out. ⌜ out ≡ stepped site lent node (Step.Command t status stamp) ⌝ }
-{
-    let no = refusing::refuse_command(site, lent, t, status, stamp);
-    if no != 0 {
-        return refuse(no, site, node);
-    }
     let old = site.breaker;
     let breaker = breaker::change(old, t, status, stamp);
     let pair = breaker.pair;
@@ -220,6 +142,20 @@ pub fn command(site: Site, lent: usize, node: Node, t: Dts, status: u8, stamp: D
         ack: Known::Yes(pair),
     };
     done(sent, next, node)
+}
+
+fn down(site: Site, i: u8) -> Out
+    ensures { λ out. ⌜ out ≡ done silence (withDown site (joined (site .down) i)) wentDown ⌝ }
+{
+    let next = with_down(site, senders::join(site.down, i));
+    done(silence(), next, node::events::down())
+}
+
+fn up(site: Site, i: u8) -> Out
+    ensures { λ out. ⌜ out ≡ done silence (withDown site (without (site .down) i)) wentUp ⌝ }
+{
+    let next = with_down(site, senders::forget(site.down, i));
+    done(silence(), next, node::events::up())
 }
 
 fn ack_known(node: Node, t: Dts, change: Known) -> Acted
@@ -235,53 +171,68 @@ fn ack_known(node: Node, t: Dts, change: Known) -> Acted
     }
 }
 
-pub fn ack(site: Site, lent: usize, node: Node, i: u8, t: Dts, back: u8) -> Out
-    ensures { λ out. ⌜ out ≡ stepped site lent node (Step.Ack i t back) ⌝ }
+// The node of an event.
+fn event_at(step: Step) -> u8
+    ensures { λ out. ⌜ out ≡ eventAt step ⌝ }
 {
-    let no = refusing::refuse_ack(site, lent, node, i, t, back);
-    if no != 0 {
-        return refuse(no, site, node);
+    match step {
+        Step::Report {
+            node: i,
+            t: _,
+            status: _,
+            number: _,
+        } => i,
+        Step::Deliver {
+            sender: _,
+            receiver: i,
+            t: _,
+            status: _,
+            stamp: _,
+        } => i,
+        Step::ShareTimeout { node: i, t: _ } => i,
+        Step::ResendTimeout { node: i, t: _ } => i,
+        Step::Ack {
+            node: i,
+            t: _,
+            back: _,
+        } => i,
+        Step::Query { node: i, t: _ } => i,
+        _ => 0,
     }
-    let breaker = site.breaker;
-    let change = breaker::change_at(breaker, back);
-    act(site, i, ack_known(node, t, change))
 }
 
-pub fn query(site: Site, lent: usize, node: Node, i: u8, t: Dts) -> Out
-    ensures { λ out. ⌜ out ≡ stepped site lent node (Step.Query i t) ⌝ }
+// What an event makes of its node.
+fn event(breaker: Breaker, node: Node, step: Step) -> Acted
+    ensures { λ out. ⌜ out ≡ eventOf breaker node step ⌝ }
 {
-    let no = refusing::refuse_query(site, lent, node, i, t);
-    if no != 0 {
-        return refuse(no, site, node);
+    match step {
+        Step::Report {
+            node: _,
+            t,
+            status,
+            number,
+        } => node::events::report(node, t, status, number),
+        Step::Deliver {
+            sender,
+            receiver: _,
+            t,
+            status,
+            stamp,
+        } => node::events::deliver(node, t, sender, status, stamp),
+        Step::ShareTimeout { node: _, t } => node::events::share_timeout(node, t),
+        Step::ResendTimeout { node: _, t } => node::events::resend_timeout(node, t),
+        Step::Ack { node: _, t, back } => {
+            let change = breaker::change_at(breaker, back);
+            ack_known(node, t, change)
+        }
+        Step::Query { node: _, t } => node::events::query(node, t, breaker.pair),
+        _ => ack_known(node, Dts(0), Known::No),
     }
-    act(site, i, node::events::query(node, t, site.breaker.pair))
 }
 
-pub fn down(site: Site, lent: usize, node: Node, i: u8) -> Out
-    ensures { λ out. ⌜ out ≡ stepped site lent node (Step.Down i) ⌝ }
-{
-    let no = refusing::refuse_down(site, lent, node, i);
-    if no != 0 {
-        return refuse(no, site, node);
-    }
-    let next = with_down(site, senders::join(site.down, i));
-    done(silence(), next, node::events::down())
-}
-
-pub fn up(site: Site, lent: usize, node: Node, i: u8) -> Out
-    ensures { λ out. ⌜ out ≡ stepped site lent node (Step.Up i) ⌝ }
-{
-    let no = refusing::refuse_up(site, lent, node, i);
-    if no != 0 {
-        return refuse(no, site, node);
-    }
-    let next = with_down(site, senders::forget(site.down, i));
-    done(silence(), next, node::events::up())
-}
-
-// Any step.
-pub fn step(site: Site, lent: usize, node: Node, step: Step) -> Out
-    ensures { λ out. ⌜ out ≡ stepped site lent node step ⌝ }
+// What a step does where none of its tests fails.
+fn effect(site: Site, node: Node, step: Step) -> Out
+    ensures { λ out. ⌜ out ≡ effectOf site node step ⌝ }
 {
     match step {
         Step::Start {
@@ -290,27 +241,29 @@ pub fn step(site: Site, lent: usize, node: Node, step: Step) -> Out
             compromised,
             status,
             g,
-        } => start(site, lent, node, f, k, compromised, status, g),
-        Step::Tick => tick(site, lent, node),
-        Step::Report {
-            node: i,
-            t,
-            status,
-            number,
-        } => report(site, lent, node, i, t, status, number),
-        Step::Deliver {
-            sender,
-            receiver,
-            t,
-            status,
-            stamp,
-        } => deliver(site, lent, node, sender, receiver, t, status, stamp),
-        Step::ShareTimeout { node: i, t } => share_timeout(site, lent, node, i, t),
-        Step::ResendTimeout { node: i, t } => resend_timeout(site, lent, node, i, t),
-        Step::Command { t, status, stamp } => command(site, lent, node, t, status, stamp),
-        Step::Ack { node: i, t, back } => ack(site, lent, node, i, t, back),
-        Step::Query { node: i, t } => query(site, lent, node, i, t),
-        Step::Down { node: i } => down(site, lent, node, i),
-        Step::Up { node: i } => up(site, lent, node, i),
+        } => {
+            let next = fresh_site(f, k, compromised, status, g);
+            done(silence(), next, node)
+        }
+        Step::Tick => tick(site, node),
+        Step::Command { t, status, stamp } => command(site, node, t, status, stamp),
+        Step::Down { node: i } => down(site, i),
+        Step::Up { node: i } => up(site, i),
+        _ => {
+            let breaker = site.breaker;
+            let i = event_at(step);
+            act(site, i, event(breaker, node, step))
+        }
     }
+}
+
+// Any step.
+pub fn step(site: Site, lent: usize, node: Node, step: Step) -> Out
+    ensures { λ out. ⌜ out ≡ stepped site lent node step ⌝ }
+{
+    let no = refusing::refuse(site, lent, node, step);
+    if no != 0 {
+        return refuse(no, site, node);
+    }
+    effect(site, node, step)
 }

@@ -9,10 +9,6 @@ use Rattle.refusals.proofs.test.Reads as test-reads
 use Rattle.site.proofs.refusing.is_now.Reads as is-now-reads
 use Rattle.site.proofs.sound.is_site_sound.Reads as is-site-sound-reads
 
--- src/refusing.rt:159:9
-is-site-sound-requires : tie.Need-is-site-sound-requires
-is-site-sound-requires c κs = search needs
-
 -- src/refusing.rt:160:9
 is-now-requires : tie.Need-is-now-requires
 is-now-requires c κs = search needs
@@ -29,10 +25,6 @@ test-requires-2 c κs = search needs
 test-requires-3 : tie.Need-test-requires-3
 test-requires-3 c κs = search needs
 
--- src/refusing.rt:164:9
-test-requires-4 : tie.Need-test-requires-4
-test-requires-4 c κs = search needs
-
 -- src/refusing.rt:165:23
 first-requires : tie.Need-first-requires
 first-requires c κs = search needs
@@ -41,25 +33,18 @@ first-requires c κs = search needs
 first-requires-2 : tie.Need-first-requires-2
 first-requires-2 c κs = search needs
 
--- src/refusing.rt:165:5
-first-requires-3 : tie.Need-first-requires-3
-first-requires-3 c κs = search needs
-
 -- src/refusing.rt:156:1
 returns : tie.Need-returns
-returns c = simp (appended, c .first3 .ensures, c .before .first2 .ensures, c .before .before .first .ensures, c .before .before .before .test4 .ensures, c .before .before .before .before .before .before .test3 .ensures, c .before .before .before .before .before .before .before .test2 .ensures, c .before .before .before .before .before .before .before .before .test .ensures, c .before .before .before .before .before .before .before .before .before .is-now .ensures, c .before .before .before .before .before .before .before .before .before .before .is-site-sound .ensures)
+returns c = simp (appended, c .first2 .ensures, c .before .first .ensures, c .before .before .test3 .ensures, c .before .before .before .before .before .test2 .ensures, c .before .before .before .before .before .before .test .ensures, c .before .before .before .before .before .before .before .is-now .ensures)
 
 pub command-first-spec : {M : Type 1} → statement M
 command-first-spec =
     tie.close
     (tie.spec
-    is-site-sound-requires
     is-now-requires
     test-requires
     test-requires-2
     test-requires-3
-    test-requires-4
     first-requires
     first-requires-2
-    first-requires-3
     returns)

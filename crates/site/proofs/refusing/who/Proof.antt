@@ -11,10 +11,6 @@ use Rattle.site.proofs.refusing.is_node.Reads as is-node-reads
 use Rattle.site.proofs.sound.is_actor_sound.Reads as is-actor-sound-reads
 use Rattle.site.proofs.sound.is_site_sound.Reads as is-site-sound-reads
 
--- src/refusing.rt:52:9
-is-site-sound-requires : tie.Need-is-site-sound-requires
-is-site-sound-requires c κs = search needs
-
 -- src/refusing.rt:53:9
 is-actor-sound-requires : tie.Need-is-actor-sound-requires
 is-actor-sound-requires c κs = search needs
@@ -57,13 +53,12 @@ first-requires-3 c κs = search needs
 
 -- src/refusing.rt:49:1
 returns : tie.Need-returns
-returns c = simp (appended, c .first3 .ensures, c .before .first2 .ensures, c .before .before .first .ensures, c .before .before .before .test4 .ensures, c .before .before .before .before .test3 .ensures, c .before .before .before .before .before .test2 .ensures, c .before .before .before .before .before .before .test .ensures, c .before .before .before .before .before .before .before .is-in .ensures, c .before .before .before .before .before .before .before .before .is-node .ensures, c .before .before .before .before .before .before .before .before .before .is-actor-sound .ensures, c .before .before .before .before .before .before .before .before .before .before .is-site-sound .ensures)
+returns c = simp (appended, c .first3 .ensures, c .before .first2 .ensures, c .before .before .first .ensures, c .before .before .before .test4 .ensures, c .before .before .before .before .test3 .ensures, c .before .before .before .before .before .test2 .ensures, c .before .before .before .before .before .before .test .ensures, c .before .before .before .before .before .before .before .is-in .ensures, c .before .before .before .before .before .before .before .before .is-node .ensures, c .before .before .before .before .before .before .before .before .before .is-actor-sound .ensures)
 
 pub who-spec : {M : Type 1} → statement M
 who-spec =
     tie.close
     (tie.spec
-    is-site-sound-requires
     is-actor-sound-requires
     is-node-requires
     is-in-requires
