@@ -11,12 +11,13 @@ use Rattle.log.specs.declared.reader.Opened.the-variants.{Version, NoVersion}
 use Rattle.log.specs.declared.reader.Found.{Found}
 use Rattle.log.specs.declared.reader.Found.the-variants.{Record, End, Cut, Malformed}
 use Rattle.log.specs.Reading.{openedAs, readAt}
-use Rattle.lent.specs.Lent.{outOf, tableAfter}
 use Rattle.text.specs.Lines.{longest}
 use Rattle.run.specs.declared.Run.{Run}
 use Rattle.run.specs.declared.Ran.{Ran}
-use Rattle.run.specs.Turns.{applied, stepLine, overAfter, malformedLine, versioned, Turn, Stop, Go, malformedAt, opening, reading, openingAt, turnOf}
-use Rattle.run.specs.Blocks.{Advance, here, printed, onward, turnIn, advanced, ranOf, Block}
+use Rattle.run.specs.declared.Next.{Next}
+use Rattle.run.specs.declared.Next.the-variants.{Halt, Fault, Front, Take}
+use Rattle.run.specs.Turns.{applied, stepLine, overAfter, malformedLine, versioned, opening, reading, nextOf, doing}
+use Rattle.run.specs.Blocks.{Advance, onward, nextIn, advanced, ranOf, Block}
 use Rattle.sequences.specs.History.{Entry}
 use Rattle.sequences.specs.Moments.{Moment, entry, afterStep, Reached, from, then}
 
@@ -52,31 +53,31 @@ prints-reached (line step next is p) r = prints-reached p (then r step)
 
 -- ---- a block of a log
 
--- the turns that there are
-data Kind (log : List ℕ) (run : Run) (at : ℕ) : Turn → Type 0 where
-  stops : Kind log run at Stop
-  opens : (v : ℕ) → openedAs (drop at log) ≡ Version v → Kind log run at (Go (versioned run v) (at + 1) [])
-  breaks : Kind log run at (Go (overAfter run) at (malformedLine run))
-  takes : (step : Step) (next : ℕ) → readAt (run .version) log at ≡ Record step next → Kind log run at (Go (applied run step) next (stepLine run step))
+-- what a turn may be to do, by what the log has there
+data Due (log : List ℕ) (run : Run) (at : ℕ) : Next → Type 0 where
+  stops : Due log run at Halt
+  breaks : Due log run at Fault
+  opens : (v : ℕ) → openedAs (drop at log) ≡ Version v → Due log run at (Front v)
+  takes : (step : Step) (next : ℕ) → readAt (run .version) log at ≡ Record step next → Due log run at (Take step next)
 
 module _ (log : List ℕ) (run : Run) (at : ℕ) (last : Bool) where
-  chosen : (b : Bool) (t u : Turn) → Kind log run at t → Kind log run at u → Kind log run at (cond b t u)
-  chosen true t u p q = p
-  chosen false t u p q = q
+  chosen : (b : Bool) (x y : Next) → Due log run at x → Due log run at y → Due log run at (cond b x y)
+  chosen true x y p q = p
+  chosen false x y p q = q
 
-  of-opening : (o : Opened) → openedAs (drop at log) ≡ o → Kind log run at (opening run at o)
+  of-opening : (o : Opened) → openedAs (drop at log) ≡ o → Due log run at (opening o)
   of-opening (Version v) e = opens v e
   of-opening NoVersion e = breaks
 
-  of-reading : (found : Found) → readAt (run .version) log at ≡ found → Kind log run at (reading run at last found)
+  of-reading : (found : Found) → readAt (run .version) log at ≡ found → Due log run at (reading last found)
   of-reading (Record step next) e = takes step next e
   of-reading End e = stops
   of-reading Cut e = chosen last _ _ breaks stops
   of-reading Malformed e = breaks
 
-  kind-of : (size put : ℕ) → Kind log run at (turnIn run log at last size put)
-  unfolding turnIn turnOf
-  kind-of size put =
+  due : (size put : ℕ) → Due log run at (nextIn (run .version) (run .ended) log at last size put)
+  unfolding nextIn nextOf
+  due size put =
       chosen (leb (put + longest) size) _ _
       (chosen (run .ended) _ _ stops
       (chosen (eqb (run .version) 0) _ _
@@ -87,19 +88,20 @@ module _ (log : List ℕ) (run : Run) (at : ℕ) (last : Bool) where
 abbrev Printed : List ℕ → Run → ℕ → Advance → Type 0
 Printed log run at a = (steps : List Step) × Prints log run at steps (a .text) (a .run) (a .read)
 
-onward-prints : (log : List ℕ) (run : Run) (at : ℕ) (t : Turn) → Kind log run at t → (rest : Run → ℕ → List ℕ → Advance)
-    → ((next : Run) (place : ℕ) (text : List ℕ) → Printed log next place (rest next place text)) → Printed log run at (onward t run at rest)
-onward-prints log run at t stops rest more = ([], nothing)
-onward-prints log run at t (opens v is) rest more = let p = more (versioned run v) (at + 1) [] in (p .0, version v is (p .1))
-onward-prints log run at t breaks rest more = let p = more (overAfter run) at (malformedLine run) in (p .0, malformed (p .1))
-onward-prints log run at t (takes step next is) rest more =
-    let p = more (applied run step) next (stepLine run step) in (step ∷ p .0, line step next is (p .1))
+onward-prints : (log : List ℕ) (run : Run) (at : ℕ) (next : Next) → Due log run at next → (rest : Run → ℕ → List ℕ → Advance)
+    → ((after : Run) (place : ℕ) (text : List ℕ) → Printed log after place (rest after place text)) → Printed log run at (onward (doing run at next) run at rest)
+onward-prints log run at next stops rest more = ([], nothing)
+onward-prints log run at next breaks rest more = let p = more (overAfter run) at (malformedLine run) in (p .0, malformed (p .1))
+onward-prints log run at next (opens v is) rest more = let p = more (versioned run v) (at + 1) [] in (p .0, version v is (p .1))
+onward-prints log run at next (takes step place is) rest more =
+    let p = more (applied run step) place (stepLine run step) in
+    (step ∷ p .0, line step place is (p .1))
 
 advanced-prints : (turns : ℕ) (run : Run) (log : List ℕ) (at : ℕ) (last : Bool) (size put : ℕ) → Printed log run at (advanced turns run log at last size put)
 unfolding advanced
 advanced-prints zero run log at last size put = ([], nothing)
 advanced-prints (suc turns) run log at last size put =
-    onward-prints log run at (turnIn run log at last size put) (kind-of log run at last size put) _
+    onward-prints log run at (nextIn (run .version) (run .ended) log at last size put) (due log run at last size put) _
     (λ next place text. advanced-prints turns next log place last size (put + length text))
 
 -- What `run_block` promises says this of every block: the text at the front of the buffer is printed by steps that lead to the run that it hands back.
