@@ -1,6 +1,6 @@
 -- A number in decimal digits, with no zero in front.
 use Prim.Native.Nat.{ℕ, zero, suc, _+_, _*_, _-_, _/_, _%_, _^_, _≤_, _<_}
-use mathlib.Core.Path.{_≡_, refl, sym, ap, _∙_}
+use mathlib.Core.Path.{_≡_, refl, sym, ap, subst, _∙_}
 use mathlib.Core.Bool.{Bool, true, false, cond}
 use mathlib.Core.List.{List, [], _∷_, _++_}
 use native.Mathlib.Nat.{zero-add, add-comm, suc-add, div-one, div-div-eq-div-mul, pow-suc, mul-comm, div-lt-iff-lt-mul, le-div-iff-mul-le, le-trans, not-suc-le-zero}
@@ -167,6 +167,36 @@ spelling-goes-on l at count n now left rest h s =
     div-pow-div : (n j : ℕ) → n / 10 ^ j / 10 ≡ n / 10 ^ suc j
     div-pow-div n j = div-div-eq-div-mul n (10 ^ j) 10 ∙ ap (λ (x : ℕ). n / x) (sym (pow-suc 10 j))
 
+-- two digits more
+pub spelling-two : (l : List ℕ) (at count n : ℕ) (now : List ℕ) (left rest : ℕ) → 1 < left → Spelling l at count n now left rest
+    → Spelling l at count n (set (set now (at + (left - 2) + 1) (rest % 100 % 10 + 48)) (at + (left - 2)) (rest % 100 / 10 + 48)) (left - 2) (rest / 100)
+spelling-two l at count n now left rest h s =
+    let once = spelling-goes-on l at count n now left rest (omega arith) s in
+    let twice = spelling-goes-on l at count n _ (left - 1) (rest / 10) (omega arith) once in
+    by-parts _ _ _ _ _ _ _ _ _ _ _ _ (ones-place left h) (tens-place left h) (ones rest) (tens rest) (two-less left) (hundreds rest) twice
+  where
+    by-parts : (i j x y w r k m c d v q : ℕ) → k ≡ i → m ≡ j → c ≡ x → d ≡ y → v ≡ w → q ≡ r → Spelling l at count n (set (set now i (x + 48)) j (y + 48)) w r
+        → Spelling l at count n (set (set now k (c + 48)) m (d + 48)) v q
+    by-parts i j x y w r k m c d v q ei ej ex ey ew er s = rw (ei, ej, ex, ey, ew, er) s
+
+    ones-place : (left : ℕ) → 1 < left → at + (left - 2) + 1 ≡ at + (left - 1)
+    ones-place left h = omega arith
+
+    tens-place : (left : ℕ) → 1 < left → at + (left - 2) ≡ at + (left - 1 - 1)
+    tens-place left h = omega arith
+
+    two-less : (left : ℕ) → left - 2 ≡ left - 1 - 1
+    two-less left = omega arith
+
+    ones : (rest : ℕ) → rest % 100 % 10 ≡ rest % 10
+    ones rest = omega arith
+
+    tens : (rest : ℕ) → rest % 100 / 10 ≡ rest / 10 % 10
+    tens rest = omega arith
+
+    hundreds : (rest : ℕ) → rest / 100 ≡ rest / 10 / 10
+    hundreds rest = omega arith
+
 pub spelling-ends : (l : List ℕ) (at count n : ℕ) (now : List ℕ) (left rest : ℕ) → left ≤ 0 → Spelling l at count n now left rest → now ≡ sets l at (spelled count n)
 spelling-ends l at count n now left rest h s =
     let none : left ≡ 0 = omega arith in
@@ -176,3 +206,19 @@ spelling-ends l at count n now left rest h s =
 
 pub spelling-length : (l : List ℕ) (at count n : ℕ) (now : List ℕ) (left rest : ℕ) → Spelling l at count n now left rest → length now ≡ length l
 spelling-length l at count n now left rest s = ap length (s .bytes) ∙ length-sets l (at + left) (spelled (count - left) n)
+
+-- the last of an odd number of digits
+pub spelling-last : (l : List ℕ) (at count n : ℕ) (now : List ℕ) (left rest : ℕ) → (left ≡ 0 → ⊥) → left ≤ 1 → Spelling l at count n now left rest
+    → set now at (rest % 10 + 48) ≡ sets l at (spelled count n)
+spelling-last l at count n now left rest some few s =
+    let one : left ≡ 1 = omega (arith, some, few) in
+    let here : at + (left - 1) ≡ at = omega (arith, one) in
+    subst (λ (k : ℕ). set now k (rest % 10 + 48) ≡ sets l at (spelled count n)) here (spelling-ends l at count n _ (left - 1) (rest / 10) (omega (arith, one)) (spelling-goes-on l at count n now left rest (omega (arith, one)) s))
+
+-- a number of one digit
+pub one-digit : (n : ℕ) → n < 10 → (n + 48) ∷ [] ≡ decimal n
+unfolding decimal spelled
+one-digit n h = sym (ap (λ (k : ℕ). spelled k n) (places-is 0 most n (lit< tt) h (λ p. absurd (not-suc-le-zero p))) ∙ ap (λ (d : ℕ). (d + 48) ∷ []) (small n h))
+  where
+    small : (n : ℕ) → n < 10 → n % 10 ≡ n
+    small n h = omega arith

@@ -16,7 +16,9 @@ use Rattle.pairs.specs.declared.Known.the-variants.{Yes, No}
 use Rattle.pairs.specs.Pair.{listed, listedKnown}
 use Rattle.site.specs.declared.Site.{Site}
 use Rattle.site.specs.declared.Sent.{Sent}
-use Rattle.site.specs.Effects.{Message, Share, Command, Ack}
+use Rattle.site.specs.declared.Answer.{Answer}
+use Rattle.site.specs.declared.Answer.the-variants.{Done, Refused}
+use Rattle.site.specs.Effects.{Message, Share, Command, Ack, numberOf, messagesOf}
 use Rattle.text.specs.Puts.{Puts, then, set-front}
 use Rattle.text.specs.Decimal.{decimal, length-decimal}
 use Rattle.text.specs.Line.{pairText, messageText, afterCommas, sentText, tailText, shownStatus, shownStamp, lineOf}
@@ -103,11 +105,20 @@ pub three-lists : (i : ℕ) (xs ys zs : List Message) → afterCommas i (xs ++ (
 three-lists i xs ys zs = commas-append i xs (ys ++ zs) ∙ ap (λ (l : List ℕ). afterCommas i xs ++ l) (commas-append i ys zs)
 
 -- with no message: a space, `-` and the line's end
-pub tail-none : (i : ℕ) (ms : List Message) {l l1 l2 l3 l4 : List ℕ} {at next a b c : ℕ} → Puts l at (afterCommas i ms) l1 next → next ≡ at
-    → Puts l1 at (32 ∷ []) l2 a → Puts l2 a (45 ∷ []) l3 b → Puts l3 b (10 ∷ []) l4 c → Puts l at (tailText i ms) l4 c
+pub tail-none : (i : ℕ) (ms : List Message) {l l1 l2 : List ℕ} {at next c : ℕ} → Puts l at (afterCommas i ms) l1 next → next ≡ at
+    → Puts l1 at (32 ∷ 45 ∷ 10 ∷ []) l2 c → Puts l at (tailText i ms) l2 c
 unfolding afterCommas tailText
-tail-none i [] {l} {l1} {l2} {l3} {l4} {at} {next} {a} {b} {c} p e q r s = then (subst (λ (m : List ℕ). Puts m at (32 ∷ []) l2 a) (p .bytes) q) (then r s)
-tail-none i (m ∷ ms) p e q r s = absurd (omega (arith, p .place))
+tail-none i [] {l} {l1} {l2} {at} {next} {c} p e q = subst (λ (m : List ℕ). Puts m at (32 ∷ 45 ∷ 10 ∷ []) l2 c) (p .bytes) q
+tail-none i (m ∷ ms) p e q = absurd (omega (arith, p .place))
+
+-- an answer's end of the line
+module _ (i : ℕ) (answer : Answer) {l l1 : List ℕ} {at next : ℕ} where
+  pub answer-done : (sent : Sent) → answer ≡ Done sent → Puts l at (tailText i (sentMessages sent)) l1 next → Puts l at (tailText i (messagesOf answer)) l1 next
+  answer-done sent e p = subst (λ (x : Answer). Puts l at (tailText i (messagesOf x)) l1 next) (sym e) p
+
+  pub answer-refused : (number : ℕ) → answer ≡ Refused number → Puts l at (32 ∷ 45 ∷ 10 ∷ []) l1 next → Puts l at (tailText i (messagesOf answer)) l1 next
+  unfolding tailText
+  answer-refused number e p = subst (λ (x : Answer). Puts l at (tailText i (messagesOf x)) l1 next) (sym e) p
 
 -- with messages: the first comma becomes the space
 pub tail-some : (i : ℕ) (ms : List Message) {l l1 l2 l3 : List ℕ} {at next a c : ℕ} → Puts l at (afterCommas i ms) l1 next → (next ≡ at → ⊥)
@@ -140,12 +151,13 @@ length-head number refusal status stamp =
     (arith, length-append (decimal number) (32 ∷ (decimal refusal ++ (32 ∷ status ∷ 32 ∷ decimal stamp))), length-append (decimal refusal) (32 ∷ status ∷ 32 ∷ decimal stamp), length-decimal number, length-decimal refusal, length-decimal stamp)
 
 -- a head and a tail are a line
-pub line-put : (number refusal : ℕ) (site : Site) (i : ℕ) (sent : Sent) (status stamp : ℕ) {l l1 l2 : List ℕ} {at next r : ℕ} → at + longest ≤ length l
-    → status ≡ shownStatus site → stamp ≡ shownStamp site
-    → Puts l at (decimal number ++ (32 ∷ (decimal refusal ++ (32 ∷ status ∷ 32 ∷ decimal stamp)))) l1 next → Puts l1 next (tailText i (sentMessages sent)) l2 r
-    → (l2 ≡ lineBytes l at (lineText number refusal site i sent)) × (r ≡ lineNext l at (lineText number refusal site i sent))
+pub line-put : (number refusal : ℕ) (site : Site) (i : ℕ) (answer : Answer) (status stamp : ℕ) {l l1 l2 : List ℕ} {at next r : ℕ} → at + longest ≤ length l
+    → status ≡ shownStatus site → stamp ≡ shownStamp site → refusal ≡ numberOf answer
+    → Puts l at (decimal number ++ (32 ∷ (decimal refusal ++ (32 ∷ status ∷ 32 ∷ decimal stamp)))) l1 next → Puts l1 next (tailText i (messagesOf answer)) l2 r
+    → (l2 ≡ lineBytes l at (lineText number site i answer)) × (r ≡ lineNext l at (lineText number site i answer))
 unfolding lineOf lineBytes lineNext
-line-put number refusal site i sent status stamp {l} {l1} {l2} {at} {next} {r} h es et p q =
-    let whole = then (subst₂ (λ (x y : ℕ). Puts l at (decimal number ++ (32 ∷ (decimal refusal ++ (32 ∷ x ∷ 32 ∷ decimal y)))) l1 next) es et p) q in
+line-put number refusal site i answer status stamp {l} {l1} {l2} {at} {next} {r} h es et er p q =
+    let shown = subst₂ (λ (x y : ℕ). Puts l at (decimal number ++ (32 ∷ (decimal refusal ++ (32 ∷ x ∷ 32 ∷ decimal y)))) l1 next) es et p in
+    let whole = then (subst (λ (x : ℕ). Puts l at (decimal number ++ (32 ∷ (decimal x ++ (32 ∷ shownStatus site ∷ 32 ∷ decimal (shownStamp site))))) l1 next) er shown) q in
     let room = le-leb (at + longest) (length l) h in
     (simp room (whole .bytes), simp room (whole .place))

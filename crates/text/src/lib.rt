@@ -52,24 +52,34 @@ fn places_of(n: u64) -> usize
     few_places(high / 100000000) + 16
 }
 
-// The last so many digits of a number.
+// The last so many digits of a number, two at a time from the end.
 fn spell(out: &mut [u8], at: usize, count: usize, n: u64)
     requires { ⌜ at + count ≤ length (now out) ⌝ }
     ensures { λ _. ⌜ now (out .exit) ≡ sets (now (out .entry)) at (spelled count n) ⌝ }
 {
     let mut left = count;
     let mut rest = n;
-    while 0 < left {
-        left -= 1;
-        out[at + left] = (rest % 10) as u8 + 48;
-        rest /= 10;
+    while 1 < left {
+        left -= 2;
+        let pair = (rest % 100) as u8;
+        out[at + left + 1] = pair % 10 + 48;
+        out[at + left] = pair / 10 + 48;
+        rest /= 100;
     }
+    if left == 0 {
+        return;
+    }
+    out[at] = (rest % 10) as u8 + 48;
 }
 
 fn put_number(out: &mut [u8], at: usize, n: u64) -> usize
     requires { ⌜ at + 20 ≤ length (now out) ⌝ }
     ensures { λ r. ⌜ Puts (now (out .entry)) at (decimal n) (now (out .exit)) r ⌝ }
 {
+    if n < 10 {
+        out[at] = n as u8 + 48;
+        return at + 1;
+    }
     let count = places_of(n);
     spell(out, at, count, n);
     at + count

@@ -3,6 +3,7 @@ use crate::put_number;
 use pairs::Known;
 use pairs::Pair;
 use pairs::Pairs;
+use site::Answer;
 use site::Sent;
 use site::Site;
 ghost use Prim.Native.Nat.{_+_, _≤_};
@@ -10,7 +11,7 @@ ghost use mathlib.Core.Path.{_≡_};
 ghost use mathlib.Core.List.{[], _∷_, _++_, map};
 ghost use lib.ListN.{length};
 ghost use Rattle.pairs.specs.Pair.{listed, listedKnown};
-ghost use Rattle.site.specs.Effects.{Message};
+ghost use Rattle.site.specs.Effects.{Message, numberOf, messagesOf};
 ghost use Rattle.text.specs.Puts.{Puts};
 ghost use Rattle.text.specs.Decimal.{decimal};
 ghost use Rattle.text.specs.Line.{letter, pairText, afterCommas, tailText, shownStatus, shownStamp};
@@ -126,18 +127,47 @@ fn put_head(out: &mut [u8], at: usize, number: u64, refusal: u8, status: u8, sta
     put_number(out, f, stamp as u64)
 }
 
+// The end of a line with nothing sent.
+fn put_nothing(out: &mut [u8], at: usize) -> usize
+    requires { ⌜ at + 3 ≤ length (now out) ⌝ }
+    ensures { λ r. ⌜ Puts (now (out .entry)) at (32 ∷ 45 ∷ 10 ∷ []) (now (out .exit)) r ⌝ }
+{
+    let a = put_byte(out, at, b' ');
+    let b = put_byte(out, a, b'-');
+    put_byte(out, b, b'\n')
+}
+
 // What was sent, from the place of the space before it to the line's end.
 fn put_tail(out: &mut [u8], at: usize, i: u8, sent: Sent) -> usize
     requires { ⌜ at + 163 ≤ length (now out) ⌝ }
     ensures { λ r. ⌜ Puts (now (out .entry)) at (tailText i (sentMessages sent)) (now (out .exit)) r ⌝ }
 {
     let next = put_sent(out, at, i, sent);
-    let after = put_byte(out, at, b' ');
     if next == at {
-        let end = put_byte(out, after, b'-');
-        return put_byte(out, end, b'\n');
+        return put_nothing(out, at);
     }
+    put_byte(out, at, b' ');
     put_byte(out, next, b'\n')
+}
+
+fn number_of(answer: Answer) -> u8
+    ensures { λ out. ⌜ out ≡ numberOf answer ⌝ }
+{
+    match answer {
+        Answer::Done(_) => 0,
+        Answer::Refused(number) => number,
+    }
+}
+
+// What an answer says was sent, with a line's end.
+fn put_answer(out: &mut [u8], at: usize, i: u8, answer: Answer) -> usize
+    requires { ⌜ at + 163 ≤ length (now out) ⌝ }
+    ensures { λ r. ⌜ Puts (now (out .entry)) at (tailText i (messagesOf answer)) (now (out .exit)) r ⌝ }
+{
+    match answer {
+        Answer::Done(sent) => put_tail(out, at, i, sent),
+        Answer::Refused(_) => put_nothing(out, at),
+    }
 }
 
 fn shown_status(site: Site) -> u8
@@ -161,16 +191,8 @@ fn shown_stamp(site: Site) -> u32
 }
 
 // Puts a line, where there is room for the longest; otherwise nothing is written, and the place handed back is the one given.
-pub fn put_line(
-    out: &mut [u8],
-    at: usize,
-    number: u64,
-    refusal: u8,
-    site: Site,
-    i: u8,
-    sent: Sent,
-) -> usize
-    ensures { λ r. ⌜ (now (out .exit) ≡ lineBytes (now (out .entry)) at (lineText number refusal site i sent)) × (r ≡ lineNext (now (out .entry)) at (lineText number refusal site i sent)) ⌝ }
+pub fn put_line(out: &mut [u8], at: usize, number: u64, site: Site, i: u8, answer: Answer) -> usize
+    ensures { λ r. ⌜ (now (out .exit) ≡ lineBytes (now (out .entry)) at (lineText number site i answer)) × (r ≡ lineNext (now (out .entry)) at (lineText number site i answer)) ⌝ }
 {
     if out.len() < 256 {
         return at;
@@ -180,6 +202,7 @@ pub fn put_line(
     }
     let status = shown_status(site);
     let stamp = shown_stamp(site);
+    let refusal = number_of(answer);
     let space = put_head(out, at, number, refusal, status, stamp);
-    put_tail(out, space, i, sent)
+    put_answer(out, space, i, answer)
 }
