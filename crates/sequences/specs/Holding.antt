@@ -14,7 +14,7 @@ use Rattle.store.specs.declared.Store.{Store}
 use Rattle.store.specs.declared.Earliest.{Earliest}
 use Rattle.store.specs.declared.Earliest.the-variants.{Stamp, Nothing}
 use Rattle.store.specs.Store.{hasPlace, put, movedTo}
-use Rattle.store.specs.Held.{held, held-moved, clock-put}
+use Rattle.store.specs.Held.{held, takes, held-moved, clock-put}
 use Rattle.store.specs.HeldLaws.{takes-near, held-taken, from-one, clock-at}
 use Rattle.store.specs.Earliest.{earliest}
 use Rattle.pairs.specs.declared.Pair.{Pair}

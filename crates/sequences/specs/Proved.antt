@@ -39,7 +39,7 @@ use Rattle.rows.specs.Named.{report, ack, query, Beginning}
 use Rattle.sequences.specs.History.{Entry, Accepted, accepted, atNode, clock, life, any, runs, deliveries, freshAtClock}
 use Rattle.sequences.specs.Moments.{Moment, Reached, Accepts, nodeAt, holds}
 use Rattle.sequences.specs.Demand.{Correct, Always, AtMostF, SharedByACorrectNode, StampsRise, RunsAsTold, HeldExactly, NoneLeft, OneSendersOwn}
-use Rattle.sequences.specs.Fitting.{latestClock, known, Fits, StartingFits, RunningFits}
+use Rattle.sequences.specs.Fitting.{latestClock, Fits, StartingFits, RunningFits}
 use Rattle.sequences.specs.Passing.{left, sound}
 use Rattle.sequences.specs.Keeps.{Keeps}
 use Rattle.sequences.specs.Started.{accepted-passed}
