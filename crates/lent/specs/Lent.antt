@@ -8,6 +8,7 @@ use Rattle.tables.specs.Tables.{table}
 use Rattle.node.specs.declared.Node.{Node}
 use Rattle.node.specs.Events.{wentDown}
 use Rattle.steps.specs.declared.Step.{Step}
+use Rattle.steps.specs.Actor.{actor}
 use Rattle.steps.specs.declared.Step.the-variants.{Start, Tick, Report, Deliver, ShareTimeout, ResendTimeout, Command, Ack, Query, Down, Up}
 use Rattle.site.specs.declared.Site.{Site}
 use Rattle.site.specs.declared.Answer.{Answer}
@@ -17,21 +18,7 @@ use Rattle.site.specs.Site.{nodes}
 use Rattle.site.specs.Effects.{firstRecord}
 use Rattle.site.specs.Steps.{stepped}
 
--- the node that a step names: for Deliver, the receiver
-abbrev pub actor : Step → Option ℕ
-actor (Start f k compromised status g) = none
-actor Tick = none
-actor (Report i t status number) = some i
-actor (Deliver sender i t status T) = some i
-actor (ShareTimeout i t) = some i
-actor (ResendTimeout i t) = some i
-actor (Command t status T) = none
-actor (Ack i t back) = some i
-actor (Query i t) = some i
-actor (Down i) = some i
-actor (Up i) = some i
-
--- its record, where the table has one
+-- the record of the node that a step names, where the table has one
 abbrev pub recordOf : Option ℕ → List Node → Node
 recordOf none records = wentDown
 recordOf (some i) records = getD records i wentDown

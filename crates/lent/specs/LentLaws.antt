@@ -23,7 +23,8 @@ use Rattle.site.specs.Tests.{isNode, startTests}
 use Rattle.site.specs.Effects.{refused, firstRecord, act, commanded}
 use Rattle.site.specs.Steps.{testsOf, effectOf, stepped}
 use Rattle.breaker.specs.Breaker.{breakerSound}
-use Rattle.lent.specs.Lent.{actor, recordOf, outOf, begun}
+use Rattle.lent.specs.Lent.{recordOf, outOf, begun}
+use Rattle.steps.specs.Actor.{actor}
 use Rattle.lent.specs.InTurn.{startsOf, beginsOf}
 
 -- ---- records that are made

@@ -17,7 +17,8 @@ use Rattle.site.specs.declared.Answer.the-variants.{Done, Refused}
 use Rattle.site.specs.declared.Out.{Out}
 use Rattle.site.specs.Site.{nodes}
 use Rattle.site.specs.Steps.{effectOf, stepped}
-use Rattle.lent.specs.Lent.{actor, recordOf, outOf, begun, after, tableAfter}
+use Rattle.lent.specs.Lent.{recordOf, outOf, begun, after, tableAfter}
+use Rattle.steps.specs.Actor.{actor}
 use Rattle.lent.specs.InTurn.{placeOf, outAt, beginsOf, compromisedOf}
 use Rattle.lent.specs.LentLaws.{begun-none, begins-within, by-tests, isDone, effect-done}
 

@@ -3,12 +3,14 @@
 use node::Node;
 use site::Answer;
 use site::Site;
+use steps::Actor;
 use steps::Step;
 ghost use mathlib.Core.Path.{_≡_};
 ghost use Prim.Native.Nat.{_<_, _≤_};
 ghost use lib.ListN.{length, set};
 ghost use Rattle.site.specs.Effects.{firstRecord};
-ghost use Rattle.lent.specs.Lent.{actor, begun, outOf, tableAfter};
+ghost use Rattle.lent.specs.Lent.{begun, outOf, tableAfter};
+ghost use Rattle.steps.specs.Actor.{actor};
 ghost use Rattle.lent.specs.InTurn.{placeOf, startsOf, beginsOf, compromisedOf, outAt};
 
 // What a step says to its caller, beside the table that it leaves.
@@ -28,43 +30,10 @@ fn index(i: u8) -> usize
 fn place(step: Step, len: usize) -> usize
     ensures { λ out. ⌜ out ≡ placeOf (actor step) len ⌝ }
 {
-    match step {
-        Step::Start {
-            f: _,
-            k: _,
-            compromised: _,
-            status: _,
-            g: _,
-        } => len,
-        Step::Tick => len,
-        Step::Report {
-            node: i,
-            t: _,
-            status: _,
-            number: _,
-        } => index(i),
-        Step::Deliver {
-            sender: _,
-            receiver: i,
-            t: _,
-            status: _,
-            stamp: _,
-        } => index(i),
-        Step::ShareTimeout { node: i, t: _ } => index(i),
-        Step::ResendTimeout { node: i, t: _ } => index(i),
-        Step::Command {
-            t: _,
-            status: _,
-            stamp: _,
-        } => len,
-        Step::Ack {
-            node: i,
-            t: _,
-            back: _,
-        } => index(i),
-        Step::Query { node: i, t: _ } => index(i),
-        Step::Down { node: i } => index(i),
-        Step::Up { node: i } => index(i),
+    let actor = steps::actor_of(step);
+    match actor {
+        Actor::Node(i) => index(i),
+        Actor::Nobody => len,
     }
 }
 

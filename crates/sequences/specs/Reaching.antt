@@ -30,7 +30,8 @@ use Rattle.site.specs.Site.{nodes, g}
 use Rattle.site.specs.Tests.{isNode, isStatus, startTests}
 use Rattle.site.specs.Effects.{silence, withMade, startedSite, firstRecord, ticked, act, ackedKnown, commanded}
 use Rattle.site.specs.Steps.{testsOf, effectOf}
-use Rattle.lent.specs.Lent.{actor, recordOf, outOf, begun, tableAfter}
+use Rattle.lent.specs.Lent.{recordOf, outOf, begun, tableAfter}
+use Rattle.steps.specs.Actor.{actor}
 use Rattle.lent.specs.Lent.{after as tableAfterAnswer}
 use Rattle.lent.specs.LentLaws.{by-tests}
 use Rattle.rows.specs.Named.{Beginning}

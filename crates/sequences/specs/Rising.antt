@@ -23,7 +23,8 @@ use Rattle.site.specs.Tests.{commandTests}
 use Rattle.site.specs.CommandLaws.{stamp-above}
 use Rattle.site.specs.Effects.{ticked, act, commanded}
 use Rattle.site.specs.Steps.{testsOf, effectOf}
-use Rattle.lent.specs.Lent.{actor, recordOf, outOf}
+use Rattle.lent.specs.Lent.{recordOf, outOf}
+use Rattle.steps.specs.Actor.{actor}
 use Rattle.lent.specs.LentLaws.{by-tests}
 use Rattle.rows.specs.Named.{Kind, command, isKind, named, Of}
 use Rattle.sequences.specs.History.{Entry, Accepted, stepKind, accepted}

@@ -45,7 +45,8 @@ use Rattle.site.specs.declared.Out.{Out}
 use Rattle.site.specs.Tests.{isNode, isStatus}
 use Rattle.site.specs.Effects.{silence, act, ackedKnown}
 use Rattle.site.specs.Steps.{testsOf, effectOf}
-use Rattle.lent.specs.Lent.{actor, recordOf, outOf, tableAfter}
+use Rattle.lent.specs.Lent.{recordOf, outOf, tableAfter}
+use Rattle.steps.specs.Actor.{actor}
 use Rattle.lent.specs.Lent.{after as tableAfterAnswer}
 use Rattle.lent.specs.LentLaws.{by-tests, named-within}
 use Rattle.rows.specs.Named.{named, Of}

@@ -15,7 +15,8 @@ use Rattle.site.specs.declared.Out.{Out}
 use Rattle.site.specs.Tests.{commandTests}
 use Rattle.site.specs.Effects.{ticked, act, commanded}
 use Rattle.site.specs.Steps.{testsOf, effectOf}
-use Rattle.lent.specs.Lent.{actor, recordOf, outOf}
+use Rattle.lent.specs.Lent.{recordOf, outOf}
+use Rattle.steps.specs.Actor.{actor}
 use Rattle.lent.specs.LentLaws.{isDone, by-tests}
 use Rattle.rows.specs.Named.{Beginning}
 use Rattle.sequences.specs.History.{Entry, lastStart}

@@ -1,6 +1,6 @@
 -- The last arm of a `match` knows of a step only that its place among the eleven is one of some.
 --     no-start     every step but Start: the site's test, and then those that are left
---     no-event-at, no-event     a step that is no event names no node, and leaves the record
+--     no-event     a step that is no event leaves the record
 --     event-acts   an event acts on its node
 -- Assumes nothing.
 use Prim.Native.Nat.{ℕ}
@@ -11,6 +11,7 @@ use denote.Enum.Declared.{tagOf}
 use Rattle.refusals.specs.Tests.{refusal, one-number}
 use Rattle.steps.specs.declared.Step.{Step}
 use Rattle.steps.specs.declared.Step.the-variants.{Start, Tick, Report, Deliver, ShareTimeout, ResendTimeout, Command, Ack, Query, Down, Up}
+use Rattle.steps.specs.Actor.{actor, actorOr0}
 use Rattle.steps.proofs.Step.{the-type}
 use Rattle.node.specs.declared.Node.{Node}
 use Rattle.node.specs.Events.{quiet}
@@ -19,7 +20,7 @@ use Rattle.site.specs.declared.Site.{Site}
 use Rattle.site.specs.Site.{siteSound, actorSound}
 use Rattle.site.specs.Effects.{act}
 use Rattle.site.specs.Steps.{testsOf, effectOf}
-use Rattle.site.specs.Parts.{soundTests, eventAt, eventOf}
+use Rattle.site.specs.Parts.{soundTests, eventOf}
 
 abbrev not-start : List ℕ
 not-start = 1 ∷ 2 ∷ 3 ∷ 4 ∷ 5 ∷ 6 ∷ 7 ∷ 8 ∷ 9 ∷ 10 ∷ []
@@ -45,19 +46,6 @@ no-start site lent node step h number e = e ∙ left-over site lent node step h
 abbrev not-event : List ℕ
 not-event = 0 ∷ 1 ∷ 6 ∷ 9 ∷ 10 ∷ []
 
-pub no-event-at : (step : Step) → OneOf not-event (tagOf the-type step) → 0 ≡ eventAt step
-no-event-at (Start f k compromised status g) h = refl
-no-event-at Tick h = refl
-no-event-at (Report i t status number) h = absurd (miss not-event 2 tt h)
-no-event-at (Deliver sender i t status T) h = absurd (miss not-event 3 tt h)
-no-event-at (ShareTimeout i t) h = absurd (miss not-event 4 tt h)
-no-event-at (ResendTimeout i t) h = absurd (miss not-event 5 tt h)
-no-event-at (Command t status T) h = refl
-no-event-at (Ack i t back) h = absurd (miss not-event 7 tt h)
-no-event-at (Query i t) h = absurd (miss not-event 8 tt h)
-no-event-at (Down i) h = refl
-no-event-at (Up i) h = refl
-
 pub no-event : (breaker : Breaker) (node : Node) (step : Step) → OneOf not-event (tagOf the-type step) → quiet node ≡ eventOf breaker node step
 no-event breaker node (Start f k compromised status g) h = refl
 no-event breaker node Tick h = refl
@@ -74,7 +62,7 @@ no-event breaker node (Up i) h = refl
 abbrev events : List ℕ
 events = 2 ∷ 3 ∷ 4 ∷ 5 ∷ 7 ∷ 8 ∷ []
 
-pub event-acts : (site : Site) (node : Node) (step : Step) → OneOf events (tagOf the-type step) → act site (eventAt step) (eventOf (site .breaker) node step) ≡ effectOf site node step
+pub event-acts : (site : Site) (node : Node) (step : Step) → OneOf events (tagOf the-type step) → act site (actorOr0 (actor step)) (eventOf (site .breaker) node step) ≡ effectOf site node step
 unfolding effectOf
 event-acts site node (Start f k compromised status g) h = absurd (miss events 0 tt h)
 event-acts site node Tick h = absurd (miss events 1 tt h)

@@ -60,20 +60,7 @@ soundTests site node (Query i t) = whoTests site node i true (isStarting node) +
 soundTests site node (Down i) = whoTests site node i true (not (isDown node)) ++ ((14, ltb (size (site .down)) (site .k)) ∷ [])
 soundTests site node (Up i) = whoTests site node i true (isDown node)
 
--- the node of an event, and what the event makes of its record; a step that is no event names none, and leaves the record
-abbrev pub eventAt : Step → ℕ
-eventAt (Start f k compromised status g) = 0
-eventAt Tick = 0
-eventAt (Report i t status number) = i
-eventAt (Deliver sender i t status T) = i
-eventAt (ShareTimeout i t) = i
-eventAt (ResendTimeout i t) = i
-eventAt (Command t status T) = 0
-eventAt (Ack i t back) = i
-eventAt (Query i t) = i
-eventAt (Down i) = 0
-eventAt (Up i) = 0
-
+-- what an event makes of the record; a step that is no event leaves it
 abbrev pub eventOf : Breaker → Node → Step → Acted
 eventOf breaker node (Start f k compromised status g) = quiet node
 eventOf breaker node Tick = quiet node

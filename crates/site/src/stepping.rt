@@ -17,7 +17,7 @@ ghost use Rattle.senders.specs.Masks.{joined, without};
 ghost use Rattle.node.specs.Events.{wentDown, wentUp};
 ghost use Rattle.site.specs.Effects.{refused, done, silence, withMade, withDown, withBreaker, startedSite, firstRecord, ticked, act, ackedKnown, commanded};
 ghost use Rattle.site.specs.Steps.{effectOf, stepped};
-ghost use Rattle.site.specs.Parts.{eventAt, eventOf};
+ghost use Rattle.site.specs.Parts.{eventOf};
 
 fn refuse(number: u8, site: Site, node: Node) -> Out
     ensures { λ out. ⌜ out ≡ refused number site node ⌝ }
@@ -171,36 +171,6 @@ fn ack_known(node: Node, t: Dts, change: Known) -> Acted
     }
 }
 
-// The node of an event.
-fn event_at(step: Step) -> u8
-    ensures { λ out. ⌜ out ≡ eventAt step ⌝ }
-{
-    match step {
-        Step::Report {
-            node: i,
-            t: _,
-            status: _,
-            number: _,
-        } => i,
-        Step::Deliver {
-            sender: _,
-            receiver: i,
-            t: _,
-            status: _,
-            stamp: _,
-        } => i,
-        Step::ShareTimeout { node: i, t: _ } => i,
-        Step::ResendTimeout { node: i, t: _ } => i,
-        Step::Ack {
-            node: i,
-            t: _,
-            back: _,
-        } => i,
-        Step::Query { node: i, t: _ } => i,
-        _ => 0,
-    }
-}
-
 // What an event makes of its node.
 fn event(breaker: Breaker, node: Node, step: Step) -> Acted
     ensures { λ out. ⌜ out ≡ eventOf breaker node step ⌝ }
@@ -251,7 +221,7 @@ fn effect(site: Site, node: Node, step: Step) -> Out
         Step::Up { node: i } => up(site, i),
         _ => {
             let breaker = site.breaker;
-            let i = event_at(step);
+            let i = steps::node_of(step);
             act(site, i, event(breaker, node, step))
         }
     }

@@ -43,7 +43,8 @@ use Rattle.steps.specs.declared.Step.{Step}
 use Rattle.site.specs.declared.Site.{Site}
 use Rattle.site.specs.declared.Answer.{Answer}
 use Rattle.lent.specs.declared.Told.{Told}
-use Rattle.lent.specs.Lent.{actor, begun}
+use Rattle.lent.specs.Lent.{begun}
+use Rattle.steps.specs.Actor.{actor}
 use Rattle.lent.specs.InTurn.{placeOf, beginsOf, compromisedOf}
 use Rattle.lent.specs.TurnLaws.{Acted, Said, asked, all-said}
 use Rattle.lent.proofs.Walk.{var, fvar, sets, lands-told, ends}

@@ -1,5 +1,5 @@
 use Rattle.site.proofs.Others.{event-acts}
-use Rattle.site.specs.Parts.{eventAt}
+use Rattle.steps.specs.Actor.{actor, actorOr0}
 use Rattle.site.specs.Steps.{effectOf}
 use Rattle.site.specs.Effects.{act}
 use mathlib.Core.Path.{ap, _∙_}
@@ -14,7 +14,7 @@ use Rattle.site.proofs.stepping.command.Reads as command-reads
 use Rattle.site.proofs.stepping.done.Reads as done-reads
 use Rattle.site.proofs.stepping.down.Reads as down-reads
 use Rattle.site.proofs.stepping.event.Reads as event-reads
-use Rattle.site.proofs.stepping.event_at.Reads as event-at-reads
+use Rattle.steps.proofs.node_of.Reads as node-of-reads
 use Rattle.site.proofs.stepping.fresh_site.Reads as fresh-site-reads
 use Rattle.site.proofs.stepping.silence.Reads as silence-reads
 use Rattle.site.proofs.stepping.tick.Reads as tick-reads
@@ -69,8 +69,8 @@ up-requires : tie.Need-up-requires
 up-requires c κs = search needs
 
 -- src/stepping.rt:254:17
-event-at-requires : tie.Need-event-at-requires
-event-at-requires c κs = search needs
+node-of-requires : tie.Need-node-of-requires
+node-of-requires c κs = search needs
 
 -- src/stepping.rt:255:26
 event-requires : tie.Need-event-requires
@@ -109,7 +109,7 @@ returns-5 c = rw (c .before .before .step4 .given .1) (c .up .ensures)
 returns-6 : tie.Need-returns-6
 returns-6 c =
     let a = c .before .before .before .before .before .args in
-    c .act .ensures ∙ ap (λ (i : ℕ). act (a .site) i (c .before .event .result)) (c .before .before .event-at .ensures) ∙ ap (act (a .site) (eventAt (a .step))) (c .before .event .ensures) ∙ event-acts (a .site) (a .node) (a .step) (c .before .before .before .before .match .keys6)
+    c .act .ensures ∙ ap (λ (i : ℕ). act (a .site) i (c .before .event .result)) (c .before .before .node-of .ensures) ∙ ap (act (a .site) (actorOr0 (actor (a .step)))) (c .before .event .ensures) ∙ event-acts (a .site) (a .node) (a .step) (c .before .before .before .before .match .keys6)
 
 pub effect-spec : {M : Type 1} → statement M
 effect-spec =
@@ -127,7 +127,7 @@ effect-spec =
     down-requires
     enum-known-step-4
     up-requires
-    event-at-requires
+    node-of-requires
     event-requires
     act-requires
     returns

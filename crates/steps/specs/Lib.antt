@@ -1,0 +1,2 @@
+-- The node that a step names.
+pub mod Actor
