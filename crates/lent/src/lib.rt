@@ -7,7 +7,8 @@ use steps::Actor;
 use steps::Step;
 ghost use mathlib.Core.Path.{_≡_};
 ghost use Prim.Native.Nat.{_<_, _≤_};
-ghost use lib.ListN.{length, set};
+ghost use lib.ListN.{length, getD, set};
+ghost use Rattle.node.specs.Events.{wentDown};
 ghost use Rattle.site.specs.Effects.{firstRecord};
 ghost use Rattle.lent.specs.Lent.{begun, outOf, tableAfter};
 ghost use Rattle.steps.specs.Actor.{actor};
@@ -87,20 +88,33 @@ fn fresh(compromised: u16, i: usize) -> Node
     site::stepping::first_record(compromised, i as u8)
 }
 
+// The record at i; where there is none, that of a node that is down.
+fn record_at(nodes: &mut [Node], i: usize) -> Node
+    ensures { λ out. ⌜ (out ≡ getD (now (nodes .entry)) i wentDown) × (now (nodes .exit) ≡ now (nodes .entry)) ⌝ }
+{
+    if nodes.len() <= i {
+        return node::events::down();
+    }
+    nodes[i]
+}
+
+// A record goes to its place, where there is one.
+fn write_at(nodes: &mut [Node], i: usize, node: Node)
+    ensures { λ out. ⌜ now (nodes .exit) ≡ set (now (nodes .entry)) i node ⌝ }
+{
+    if i >= nodes.len() {
+        return;
+    }
+    nodes[i] = node;
+}
+
 // A step with the record at i, which is written back; where there is none, with the record of a node that is down.
 fn act(nodes: &mut [Node], site: Site, i: usize, step: Step) -> Told
     ensures { λ out. ⌜ (out .answer ≡ outAt site (now (nodes .entry)) i step .answer) × ((out .site ≡ outAt site (now (nodes .entry)) i step .site) × (now (nodes .exit) ≡ set (now (nodes .entry)) i (outAt site (now (nodes .entry)) i step .node))) ⌝ }
 {
-    if nodes.len() <= i {
-        let blank = node::events::down();
-        let out = site::stepping::step(site, nodes.len(), blank, step);
-        return Told {
-            answer: out.answer,
-            site: out.site,
-        };
-    }
-    let out = site::stepping::step(site, nodes.len(), nodes[i], step);
-    nodes[i] = out.node;
+    let node = record_at(nodes, i);
+    let out = site::stepping::step(site, nodes.len(), node, step);
+    write_at(nodes, i, out.node);
     Told {
         answer: out.answer,
         site: out.site,
