@@ -15,19 +15,19 @@ use Rattle.breaker.specs.declared.Changes.{Changes}
 use Rattle.breaker.specs.declared.Breaker.{Breaker}
 
 -- "of the last eight"
-abbrev pub most : ℕ
-most = 8
+abbrev pub mostChanges : ℕ
+mostChanges = 8
 
-abbrev pub none : Pair
-none = pair 0 (record { 0 = 0 })
+abbrev pub noChange : Pair
+noChange = pair 0 (record { 0 = 0 })
 
 -- the change at a place, the newest at 0
 abbrev pub pairAt : Changes → ℕ → Pair
-pairAt changes i = getD (changes .pairs) i none
+pairAt changes i = getD (changes .pairs) i noChange
 
 unfoldable pub started : ℕ → Dts → Breaker
 started status g =
-    record { pair = pair status g; clock = g; changes = record { pairs = table most (λ i. none); count = 0 } }
+    record { pair = pair status g; clock = g; changes = record { pairs = table mostChanges (λ i. noChange); count = 0 } }
 
 -- "(A, larger of T and t)"
 abbrev pub larger : Dts → Dts → Dts
@@ -37,8 +37,8 @@ larger T t = cond (leb (T .0) (t .0)) t T
 unfoldable pub remembered : Changes → Pair → Changes
 remembered changes p =
     record {
-      pairs = table most (λ i. cond (eqb i 0) p (pairAt changes (i - 1)));
-      count = cond (ltb (changes .count) most) (changes .count + 1) most;
+      pairs = table mostChanges (λ i. cond (eqb i 0) p (pairAt changes (i - 1)));
+      count = cond (ltb (changes .count) mostChanges) (changes .count + 1) mostChanges;
     }
 
 -- "Accepted, the breaker becomes (A, larger of T and t), sends the ack of that pair and remembers it."
@@ -49,7 +49,7 @@ changed breaker t status T =
 -- "Delivers the breaker's change number `back` from the newest (0), of the last eight."
 unfoldable pub changeAt : Breaker → ℕ → Known
 changeAt breaker back =
-    cond (ltb back (breaker .changes .count) && ltb back most) (Yes (pairAt (breaker .changes) back)) No
+    cond (ltb back (breaker .changes .count) && ltb back mostChanges) (Yes (pairAt (breaker .changes) back)) No
 
 -- ---- 16: "status as above; .. at most eight changes; stamps and clock to 1,000,000,003"
 
@@ -61,7 +61,7 @@ allSound [] = true
 allSound (p ∷ ps) = pairSound p && allSound ps
 
 unfoldable pub changesSound : Changes → Bool
-changesSound changes = leb (changes .count) most && allSound (table most (pairAt changes))
+changesSound changes = leb (changes .count) mostChanges && allSound (table mostChanges (pairAt changes))
 
 unfoldable pub breakerSound : Breaker → Bool
 breakerSound breaker = pairSound (breaker .pair) && stampSound (breaker .clock) && changesSound (breaker .changes)

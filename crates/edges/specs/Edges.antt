@@ -11,7 +11,7 @@ use Rattle.time.specs.Discretising.{discretised, defaultInterval}
 use Rattle.time.specs.Fresh.{freshAt}
 use Rattle.time.specs.Newer.{newer, ahead}
 use Rattle.senders.specs.Sets.{count}
-use Rattle.senders.specs.Masks.{isIn, size, joined, within, together}
+use Rattle.senders.specs.Masks.{isIn, size, enough, joined, within, together}
 use Rattle.tables.specs.Tables.{table}
 use Rattle.store.specs.declared.Store.{Store}
 use Rattle.store.specs.Store.{empty, put, hasPlace, sendersOf, storeWithin}
@@ -88,7 +88,7 @@ edges =
     -- at t = 100, 98 and 102 are fresh, 97 and 103 are not
     ∷ (6, freshAt 98 100 && freshAt 102 100 && not (freshAt 97 100) && not (freshAt 103 100))
     -- f = 1: senders {0, 2} suffice; sender 2 twice does not
-    ∷ (7, leb 2 (size (joined (joined 0 0) 2)) && not (leb 2 (size (joined (joined 0 2) 2))))
+    ∷ (7, enough (joined (joined 0 0) 2) 1 && not (enough (joined (joined 0 2) 2) 1))
     -- breaker (CLOSE, 100), t = 100, verdict yes: TRIP at 100 is 11; TRIP at 101 is done, breaker (TRIP, 101)
     ∷ (8, verdict site TRIP (at 100) && verdict site TRIP (at 101))
     ∷ (8, eqb (answer (Command (at 100) TRIP (at 100))) 11 && eqb (answer (Command (at 100) TRIP (at 101))) 0)

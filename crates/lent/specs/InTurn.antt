@@ -15,9 +15,9 @@ use Rattle.site.specs.Site.{nodes}
 use Rattle.site.specs.Steps.{stepped}
 
 -- where the record stands, past the end where the step names no node
-abbrev pub placeOf : Option ℕ → ℕ → ℕ
-placeOf none len = len
-placeOf (some i) len = i
+abbrev pub indexOf : Option ℕ → ℕ → ℕ
+indexOf none len = len
+indexOf (some i) len = i
 
 -- the step with the record at i
 abbrev pub outAt : Site → List Node → ℕ → Step → Out

@@ -28,12 +28,12 @@ unfoldable pub outOf : Site → List Node → Step → Out
 outOf site records step = stepped site (length records) (recordOf (actor step) records) step
 
 -- the records that a Start makes, in front of those that it leaves
-abbrev pub begun : ℕ → ℕ → List Node → List Node
-begun n compromised records = table n (firstRecord compromised) ++ drop n records
+abbrev pub firstRecords : ℕ → ℕ → List Node → List Node
+firstRecords n compromised records = table n (firstRecord compromised) ++ drop n records
 
 -- the table after an answer to a step
 abbrev pub afterDone : Step → List Node → Node → List Node
-afterDone (Start f k compromised status g) records node = begun (nodes f k) compromised records
+afterDone (Start f k compromised status g) records node = firstRecords (nodes f k) compromised records
 afterDone Tick records node = records
 afterDone (Report i t status number) records node = set records i node
 afterDone (Deliver sender i t status T) records node = set records i node
@@ -46,9 +46,9 @@ afterDone (Down i) records node = set records i node
 afterDone (Up i) records node = set records i node
 
 -- "a refused step changes none"
-abbrev pub after : Answer → Step → List Node → Node → List Node
-after (Done sent) step records node = afterDone step records node
-after (Refused number) step records node = records
+abbrev pub tableAfterAnswer : Answer → Step → List Node → Node → List Node
+tableAfterAnswer (Done sent) step records node = afterDone step records node
+tableAfterAnswer (Refused number) step records node = records
 
 unfoldable pub tableAfter : Site → List Node → Step → List Node
-tableAfter site records step = after (outOf site records step .answer) step records (outOf site records step .node)
+tableAfter site records step = tableAfterAnswer (outOf site records step .answer) step records (outOf site records step .node)

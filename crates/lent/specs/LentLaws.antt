@@ -23,7 +23,7 @@ use Rattle.site.specs.Tests.{isNode, startTests}
 use Rattle.site.specs.Effects.{refused, firstRecord, act, commanded}
 use Rattle.site.specs.Steps.{testsOf, effectOf, stepped}
 use Rattle.breaker.specs.Breaker.{breakerSound}
-use Rattle.lent.specs.Lent.{recordOf, outOf, begun}
+use Rattle.lent.specs.Lent.{recordOf, outOf, firstRecords}
 use Rattle.steps.specs.Actor.{actor}
 use Rattle.lent.specs.InTurn.{startsOf, beginsOf}
 
@@ -45,15 +45,15 @@ module _ {A : Type 0} where
 
 module _ (compromised : ℕ) (records : List Node) where
   -- no record is made
-  pub begun-none : records ≡ begun 0 compromised records
+  pub begun-none : records ≡ firstRecords 0 compromised records
   unfolding table
   begun-none = refl
 
   -- one more is
-  pub begun-more : (n : ℕ) → n < length records → set (begun n compromised records) n (firstRecord compromised n) ≡ begun (suc n) compromised records
+  pub begun-more : (n : ℕ) → n < length records → set (firstRecords n compromised records) n (firstRecord compromised n) ≡ firstRecords (suc n) compromised records
   begun-more n h = fronted-more n (firstRecord compromised) records h
 
-  pub begun-length : (n : ℕ) → n ≤ length records → length (begun n compromised records) ≡ length records
+  pub begun-length : (n : ℕ) → n ≤ length records → length (firstRecords n compromised records) ≡ length records
   begun-length n h = fronted-length n (firstRecord compromised) records h
 
 -- ---- what is decided

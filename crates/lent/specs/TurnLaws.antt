@@ -17,28 +17,28 @@ use Rattle.site.specs.declared.Answer.the-variants.{Done, Refused}
 use Rattle.site.specs.declared.Out.{Out}
 use Rattle.site.specs.Site.{nodes}
 use Rattle.site.specs.Steps.{effectOf, stepped}
-use Rattle.lent.specs.Lent.{recordOf, outOf, begun, after, tableAfter}
+use Rattle.lent.specs.Lent.{recordOf, outOf, firstRecords, tableAfterAnswer, tableAfter}
 use Rattle.steps.specs.Actor.{actor}
-use Rattle.lent.specs.InTurn.{placeOf, outAt, beginsOf, compromisedOf}
+use Rattle.lent.specs.InTurn.{indexOf, outAt, beginsOf, compromisedOf}
 use Rattle.lent.specs.LentLaws.{begun-none, begins-within, by-tests, isDone, effect-done}
 
-record-at : (named : Option ℕ) (records : List Node) → getD records (placeOf named (length records)) wentDown ≡ recordOf named records
+record-at : (named : Option ℕ) (records : List Node) → getD records (indexOf named (length records)) wentDown ≡ recordOf named records
 record-at none records = List·getD-eq-default records wentDown (omega arith)
 record-at (some i) records = refl
 
-pub out-at-place : (site : Site) (records : List Node) (step : Step) → outAt site records (placeOf (actor step) (length records)) step ≡ outOf site records step
+pub out-at-place : (site : Site) (records : List Node) (step : Step) → outAt site records (indexOf (actor step) (length records)) step ≡ outOf site records step
 unfolding outOf
 out-at-place site records step = ap (λ (node : Node). stepped site (length records) node step) (record-at (actor step) records)
 
 -- a record that is written back as it was
-same-records : (named : Option ℕ) (records : List Node) → set records (placeOf named (length records)) (recordOf named records) ≡ records
+same-records : (named : Option ℕ) (records : List Node) → set records (indexOf named (length records)) (recordOf named records) ≡ records
 same-records none records = set-out records (length records) wentDown (omega arith)
 same-records (some i) records = set-getD records i wentDown
 
 -- with the record written back and the records made, the table is as it should be
 after-done : (answer : Answer) → isDone answer ≡ true → (step : Step) (records : List Node) (node : Node)
-    → begun (beginsOf answer step) (compromisedOf step) (set records (placeOf (actor step) (length records)) node) ≡ after answer step records node
-after-done (Done sent) h (Start f k compromised status g) records node = ap (begun (nodes f k) compromised) (set-out records (length records) node (omega arith))
+    → firstRecords (beginsOf answer step) (compromisedOf step) (set records (indexOf (actor step) (length records)) node) ≡ tableAfterAnswer answer step records node
+after-done (Done sent) h (Start f k compromised status g) records node = ap (firstRecords (nodes f k) compromised) (set-out records (length records) node (omega arith))
 after-done (Done sent) h Tick records node = sym (begun-none 0 (set records (length records) node)) ∙ set-out records (length records) node (omega arith)
 after-done (Done sent) h (Report i t status number) records node = sym (begun-none 0 (set records i node))
 after-done (Done sent) h (Deliver sender i t status T) records node = sym (begun-none 0 (set records i node))
@@ -52,13 +52,13 @@ after-done (Done sent) h (Up i) records node = sym (begun-none 0 (set records i 
 after-done (Refused number) h step records node = absurd (false≢true h)
 
 pub made-and-written : (site : Site) (records : List Node) (step : Step)
-    → begun (beginsOf (outOf site records step .answer) step) (compromisedOf step) (set records (placeOf (actor step) (length records)) (outOf site records step .node)) ≡ tableAfter site records step
+    → firstRecords (beginsOf (outOf site records step .answer) step) (compromisedOf step) (set records (indexOf (actor step) (length records)) (outOf site records step .node)) ≡ tableAfter site records step
 unfolding outOf tableAfter
 made-and-written site records step =
-    by-tests (λ out. begun (beginsOf (out .answer) step) (compromisedOf step) (set records (placeOf (actor step) (length records)) (out .node)) ≡ after (out .answer) step records (out .node)) site (length records)
+    by-tests (λ out. firstRecords (beginsOf (out .answer) step) (compromisedOf step) (set records (indexOf (actor step) (length records)) (out .node)) ≡ tableAfterAnswer (out .answer) step records (out .node)) site (length records)
     (recordOf (actor step) records) step
     (λ e. after-done (effectOf site (recordOf (actor step) records) step .answer) (effect-done site (recordOf (actor step) records) step) step records (effectOf site (recordOf (actor step) records) step .node))
-    (λ number. sym (begun-none (compromisedOf step) (set records (placeOf (actor step) (length records)) (recordOf (actor step) records))) ∙ same-records (actor step) records)
+    (λ number. sym (begun-none (compromisedOf step) (set records (indexOf (actor step) (length records)) (recordOf (actor step) records))) ∙ same-records (actor step) records)
 
 -- what is said of an answer, a site and a list once the record is written back, and at the end
 abbrev pub Acted : Site → List Node → ℕ → Step → Answer → Site → List Node → Type 0
@@ -68,7 +68,7 @@ abbrev pub Said : Site → List Node → Step → Answer → Site → List Node 
 Said site records step answer next left = (answer ≡ outOf site records step .answer) × ((next ≡ outOf site records step .site) × (left ≡ tableAfter site records step))
 
 module _ (site : Site) (records : List Node) (step : Step) (i n : ℕ) (answer : Answer) (next : Site) (written : List Node)
-    (i-is : i ≡ placeOf (actor step) (length records)) (acted : Acted site records i step answer next written) (begins : n ≡ beginsOf answer step) where
+    (i-is : i ≡ indexOf (actor step) (length records)) (acted : Acted site records i step answer next written) (begins : n ≡ beginsOf answer step) where
   same-out : outAt site records i step ≡ outOf site records step
   same-out = ap (λ (j : ℕ). outAt site records j step) i-is ∙ out-at-place site records step
 
@@ -78,7 +78,7 @@ module _ (site : Site) (records : List Node) (step : Step) (i n : ℕ) (answer :
   n-is : n ≡ beginsOf (outOf site records step .answer) step
   n-is = begins ∙ ap (λ (a : Answer). beginsOf a step) same-answer
 
-  written-is : written ≡ set records (placeOf (actor step) (length records)) (outOf site records step .node)
+  written-is : written ≡ set records (indexOf (actor step) (length records)) (outOf site records step .node)
   written-is = acted .1 .1 ∙ ap (λ (out : Out). set records i (out .node)) same-out ∙ ap (λ (j : ℕ). set records j (outOf site records step .node)) i-is
 
   -- there are as many records as are to be made
@@ -89,12 +89,12 @@ module _ (site : Site) (records : List Node) (step : Step) (i n : ℕ) (answer :
       let same = n-is in
       (omega (arith, same, most .0), omega (arith, same, long, most .1))
 
-  pub all-said : (compromised : ℕ) (left : List Node) → compromised ≡ compromisedOf step → left ≡ begun n compromised written → Said site records step answer next left
+  pub all-said : (compromised : ℕ) (left : List Node) → compromised ≡ compromisedOf step → left ≡ firstRecords n compromised written → Said site records step answer next left
   all-said compromised left ec el = (
     same-answer,
     (
       acted .1 .0 ∙ ap (λ (out : Out). out .site) same-out,
-      el ∙ ap (λ (m : ℕ). begun m compromised written) n-is ∙ ap (λ (c : ℕ). begun (beginsOf (outOf site records step .answer) step) c written) ec
-          ∙ ap (begun (beginsOf (outOf site records step .answer) step) (compromisedOf step)) written-is ∙ made-and-written site records step,
+      el ∙ ap (λ (m : ℕ). firstRecords m compromised written) n-is ∙ ap (λ (c : ℕ). firstRecords (beginsOf (outOf site records step .answer) step) c written) ec
+          ∙ ap (firstRecords (beginsOf (outOf site records step .answer) step) (compromisedOf step)) written-is ∙ made-and-written site records step,
     ),
   )

@@ -10,9 +10,9 @@ ghost use Prim.Native.Nat.{_<_, _≤_};
 ghost use lib.ListN.{length, getD, set};
 ghost use Rattle.node.specs.Events.{wentDown};
 ghost use Rattle.site.specs.Effects.{firstRecord};
-ghost use Rattle.lent.specs.Lent.{begun, outOf, tableAfter};
+ghost use Rattle.lent.specs.Lent.{firstRecords, outOf, tableAfter};
 ghost use Rattle.steps.specs.Actor.{actor};
-ghost use Rattle.lent.specs.InTurn.{placeOf, startsOf, beginsOf, compromisedOf, outAt};
+ghost use Rattle.lent.specs.InTurn.{indexOf, startsOf, beginsOf, compromisedOf, outAt};
 
 // What a step says to its caller, beside the table that it leaves.
 pub struct Told {
@@ -29,7 +29,7 @@ fn index(i: u8) -> usize
 
 // Where the record stands that a step takes: past the end where it names no node.
 fn place(step: Step, len: usize) -> usize
-    ensures { λ out. ⌜ out ≡ placeOf (actor step) len ⌝ }
+    ensures { λ out. ⌜ out ≡ indexOf (actor step) len ⌝ }
 {
     let actor = steps::actor_of(step);
     match actor {
@@ -124,7 +124,7 @@ fn act(nodes: &mut [Node], site: Site, i: usize, step: Step) -> Told
 // The first n records are set anew, and the others left.
 fn fill(nodes: &mut [Node], n: usize, compromised: u16)
     requires { ⌜ (n ≤ 12) × (n ≤ length (now nodes)) ⌝ }
-    ensures { λ out. ⌜ now (nodes .exit) ≡ begun n compromised (now (nodes .entry)) ⌝ }
+    ensures { λ out. ⌜ now (nodes .exit) ≡ firstRecords n compromised (now (nodes .entry)) ⌝ }
 {
     let mut i = 0;
     while i < n {

@@ -24,19 +24,19 @@ use Rattle.pairs.specs.Pair.{pair}
 use Rattle.node.specs.State.{attempts}
 
 -- "sends command (A, T), sets b to (A, T), arms resend"
-abbrev pub commanded : Record → Earliest → Combined
-commanded rec (Stamp T) =
+abbrev pub commanding : Record → Earliest → Combined
+commanding rec (Stamp T) =
     record {
       rec = record { r = rec .r; b = pair (rec .r .status) T; number = rec .number; resend = Armed T };
       command = Yes (pair (rec .r .status) T);
     }
-commanded rec Nothing = record { rec = rec; command = No }
+commanding rec Nothing = record { rec = rec; command = No }
 
 -- "leaves it running in Attempt of A: if some fresh stamp above b's stamp is held from at least f+1 senders for A, it takes the earliest such T"
 unfoldable pub combined : Record → Store → ℕ → Combined
 combined rec store f =
     cond (attempts (rec .r) (rec .b))
-    (commanded rec (earliest store (rec .r .status) (rec .b .stamp) f))
+    (commanding rec (earliest store (rec .r .status) (rec .b .stamp) f))
     (record { rec = rec; command = No })
 
 -- "Own shares count at once as delivered."

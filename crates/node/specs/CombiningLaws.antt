@@ -11,7 +11,7 @@ use Rattle.store.specs.Earliest.{earliest}
 use Rattle.pairs.specs.declared.Known.the-variants.{Yes, No}
 use Rattle.node.specs.declared.Record.{Record}
 use Rattle.node.specs.State.{attempts}
-use Rattle.node.specs.Combining.{commanded, combined}
+use Rattle.node.specs.Combining.{commanding, combined}
 
 -- nothing is left to combine
 abbrev pub Quiet : Record → Store → ℕ → Type 0
@@ -22,7 +22,7 @@ unfolding combined
 combined-quiet rec store f = go (attempts (rec .r) (rec .b)) (earliest store (rec .r .status) (rec .b .stamp) f) refl refl
   where
     go : (x : Bool) (e : Earliest) → attempts (rec .r) (rec .b) ≡ x → earliest store (rec .r .status) (rec .b .stamp) f ≡ e
-        → Quiet (cond x (commanded rec e) (record { rec = rec; command = No }) .rec) store f
+        → Quiet (cond x (commanding rec e) (record { rec = rec; command = No }) .rec) store f
     go false e ex ee = λ h. absurd (false≢true (sym ex ∙ h))
     go true Nothing ex ee = λ h. ee
     go true (Stamp T) ex ee = λ h. absurd (false≢true (sym (simp (eq-eqb (rec .r .status) (rec .r .status) refl)) ∙ h))
@@ -31,7 +31,7 @@ pub combined-r : (rec : Record) (store : Store) (f : ℕ) → combined rec store
 unfolding combined
 combined-r rec store f = go (attempts (rec .r) (rec .b)) (earliest store (rec .r .status) (rec .b .stamp) f)
   where
-    go : (x : Bool) (e : Earliest) → cond x (commanded rec e) (record { rec = rec; command = No }) .rec .r ≡ rec .r
+    go : (x : Bool) (e : Earliest) → cond x (commanding rec e) (record { rec = rec; command = No }) .rec .r ≡ rec .r
     go false e = refl
     go true Nothing = refl
     go true (Stamp T) = refl
@@ -43,8 +43,8 @@ unfolding combined
 combined-b rec store f = go (attempts (rec .r) (rec .b)) (earliest store (rec .r .status) (rec .b .stamp) f)
   where
     go : (x : Bool) (e : Earliest)
-        → (cond x (commanded rec e) (record { rec = rec; command = No }) .rec .b ≡ rec .b)
-        ⊎ (cond x (commanded rec e) (record { rec = rec; command = No }) .command ≡ Yes (cond x (commanded rec e) (record { rec = rec; command = No }) .rec .b))
+        → (cond x (commanding rec e) (record { rec = rec; command = No }) .rec .b ≡ rec .b)
+        ⊎ (cond x (commanding rec e) (record { rec = rec; command = No }) .command ≡ Yes (cond x (commanding rec e) (record { rec = rec; command = No }) .rec .b))
     go false e = inl refl
     go true Nothing = inl refl
     go true (Stamp T) = inr refl

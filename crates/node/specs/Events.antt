@@ -38,11 +38,11 @@ bothKnown (Yes r) (Yes b) l = Running (record { r = r; b = b; number = l .number
 bothKnown (Yes r) No l = Starting l
 bothKnown No b l = Starting l
 
-abbrev pub joined : Learned → Phase
-joined l = bothKnown (l .r) (l .b) l
+abbrev pub onceKnown : Learned → Phase
+onceKnown l = bothKnown (l .r) (l .b) l
 
 unfoldable pub begun : Learned → Dts → Acted
-begun l t = quiet (record { phase = joined l; store = empty t })
+begun l t = quiet (record { phase = onceKnown l; store = empty t })
 
 -- ---- Report: "It sets r to the status and t. If a running node was not in Attempt and now is, it shares (status, t) and (status, t+1)."
 

@@ -2,6 +2,7 @@
 -- and Wait for b's status where it is less."
 use Prim.Native.Nat.{ℕ}
 use mathlib.Core.Bool.{Bool, true, false, not, _&&_, cond}
+use mathlib.Core.Path.{_≡_, refl}
 use lib.Dec.{leb}
 use Rattle.pairs.specs.declared.Pair.{Pair}
 use Rattle.pairs.specs.Pair.{same}
@@ -15,3 +16,33 @@ state r b = cond (same r b) (Done (b .status)) (cond (leb (b .stamp .0) (r .stam
 -- the state is Attempt
 abbrev pub attempts : Pair → Pair → Bool
 attempts r b = not (same r b) && leb (b .stamp .0) (r .stamp .0)
+
+-- what is asked of a state
+abbrev pub isAttempt : State → Bool
+isAttempt (Done A) = false
+isAttempt (Attempt A) = true
+isAttempt (Wait A) = false
+
+abbrev pub isDone : State → Bool
+isDone (Done A) = true
+isDone (Attempt A) = false
+isDone (Wait A) = false
+
+-- what the promises ask of r and b is what the state says
+pub attempts-state : (r b : Pair) → attempts r b ≡ isAttempt (state r b)
+unfolding state
+attempts-state r b = go (same r b) (leb (b .stamp .0) (r .stamp .0))
+  where
+    go : (s l : Bool) → (not s && l) ≡ isAttempt (cond s (Done (b .status)) (cond l (Attempt (r .status)) (Wait (b .status))))
+    go true l = refl
+    go false true = refl
+    go false false = refl
+
+pub same-state : (r b : Pair) → same r b ≡ isDone (state r b)
+unfolding state
+same-state r b = go (same r b) (leb (b .stamp .0) (r .stamp .0))
+  where
+    go : (s l : Bool) → s ≡ isDone (cond s (Done (b .status)) (cond l (Attempt (r .status)) (Wait (b .status))))
+    go true l = refl
+    go false true = refl
+    go false false = refl

@@ -12,7 +12,7 @@ use store::Earliest;
 use store::Store;
 use time::Dts;
 ghost use mathlib.Core.Path.{_≡_};
-ghost use Rattle.node.specs.Combining.{commanded, combined, putAll, followed, finishedRunning, finished};
+ghost use Rattle.node.specs.Combining.{commanding, combined, putAll, followed, finishedRunning, finished};
 
 // A record after the combining rule, and the command that it sends.
 pub struct Combined {
@@ -21,7 +21,7 @@ pub struct Combined {
 }
 
 fn command(rec: Record, stamp: Dts) -> Combined
-    ensures { λ out. ⌜ out ≡ commanded rec (Earliest.Stamp stamp) ⌝ }
+    ensures { λ out. ⌜ out ≡ commanding rec (Earliest.Stamp stamp) ⌝ }
 {
     let r = rec.r;
     let number = rec.number;

@@ -14,7 +14,7 @@ use pairs::Pairs;
 use store::Store;
 use time::Dts;
 ghost use mathlib.Core.Path.{_≡_};
-ghost use Rattle.node.specs.Events.{quiet, joined, begun, kept, reportShares, reportRunning, reported, delivered, shareTimedOut, again, resendTimedOut, later, laterThan, ackRunning, acked, queried, wentDown, wentUp};
+ghost use Rattle.node.specs.Events.{quiet, onceKnown, begun, kept, reportShares, reportRunning, reported, delivered, shareTimedOut, again, resendTimedOut, later, laterThan, ackRunning, acked, queried, wentDown, wentUp};
 
 fn sends_nothing(node: Node) -> Acted
     ensures { λ out. ⌜ out ≡ quiet node ⌝ }
@@ -37,7 +37,7 @@ fn running(rec: Record, store: Store) -> Node
 
 // Running, once both pairs are known.
 fn join(learned: Learned) -> Phase
-    ensures { λ out. ⌜ out ≡ joined learned ⌝ }
+    ensures { λ out. ⌜ out ≡ onceKnown learned ⌝ }
 {
     let known_r = learned.r;
     let known_b = learned.b;

@@ -11,7 +11,7 @@ use Rattle.steps.specs.declared.Step.the-variants.{Command}
 use Rattle.rows.specs.Named.{Beginning}
 use Rattle.run.specs.declared.Run.{Run}
 use Rattle.run.specs.declared.Ran.{Ran}
-use Rattle.run.specs.Turns.{begun}
+use Rattle.run.specs.Turns.{firstRun}
 use Rattle.run.specs.Blocks.{ranOf, Block}
 use Rattle.sequences.specs.History.{Entry, lastStart}
 use Rattle.sequences.specs.Moments.{Reached, from, Accepts}
@@ -23,10 +23,10 @@ use Rattle.replay.specs.Replay.{momentOf, Prints, told, prints-reached, 
 
 -- the run has come about from its beginning by the steps of this history
 abbrev pub Replayed : List Entry → Run → Type 0
-Replayed h run = Reached (momentOf begun) h (momentOf run)
+Replayed h run = Reached (momentOf firstRun) h (momentOf run)
 
 -- What `begin` hands back has no history,
-pub at-first : Replayed [] begun
+pub at-first : Replayed [] firstRun
 at-first = from
 
 -- and `run_block`, given a run with a history, prints the lines of some more steps and hands back the run with those told too.
@@ -51,15 +51,15 @@ pub record Promised (h : List Entry) (run : Run) : Type 0 where
   pub sent : (b : Beginning) → lastStart h ≡ some b → MovedBySending h (momentOf run) b
 
 pub promised : (h : List Entry) (run : Run) → Replayed h run → Promised h run
-unfolding begun
+unfolding firstRun
 promised h run r =
     record {
       started-first = started-before refl r;
-      few = at-most-f (momentOf begun) h (momentOf run) r;
-      shared = shared-by-a-correct-node (momentOf begun) h (momentOf run) r;
-      rising = stamps-rise (momentOf begun) h (momentOf run) r;
-      running = runs-as-told (momentOf begun) h (momentOf run) r;
-      held = held-exactly (momentOf begun) h (momentOf run) r;
-      none-waits = none-left (momentOf begun) h (momentOf run) r;
-      sent = moved-by-sending (momentOf begun) h (momentOf run) r;
+      few = at-most-f (momentOf firstRun) h (momentOf run) r;
+      shared = shared-by-a-correct-node (momentOf firstRun) h (momentOf run) r;
+      rising = stamps-rise (momentOf firstRun) h (momentOf run) r;
+      running = runs-as-told (momentOf firstRun) h (momentOf run) r;
+      held = held-exactly (momentOf firstRun) h (momentOf run) r;
+      none-waits = none-left (momentOf firstRun) h (momentOf run) r;
+      sent = moved-by-sending (momentOf firstRun) h (momentOf run) r;
     }

@@ -11,12 +11,12 @@ use Rattle.log.specs.declared.reader.Opened.the-variants.{Version, NoVersion}
 use Rattle.log.specs.declared.reader.Found.{Found}
 use Rattle.log.specs.declared.reader.Found.the-variants.{Record, End, Cut, Malformed}
 use Rattle.log.specs.Reading.{openedAs, readAt}
-use Rattle.text.specs.Lines.{longest}
+use Rattle.text.specs.Lines.{longestLine}
 use Rattle.run.specs.declared.Run.{Run}
 use Rattle.run.specs.declared.Ran.{Ran}
 use Rattle.run.specs.declared.Next.{Next}
 use Rattle.run.specs.declared.Next.the-variants.{Halt, Fault, Front, Take}
-use Rattle.run.specs.Turns.{applied, stepLine, overAfter, malformedLine, versioned, opening, reading, nextOf, doing}
+use Rattle.run.specs.Turns.{applied, stepLine, overAfter, malformedLine, versioned, opening, reading, nextTurn, doing}
 use Rattle.run.specs.Blocks.{Advance, onward, nextIn, advanced, ranOf, Block}
 use Rattle.sequences.specs.History.{Entry}
 use Rattle.sequences.specs.Moments.{Moment, entry, afterStep, Reached, from, then}
@@ -76,9 +76,9 @@ module _ (log : List ℕ) (run : Run) (at : ℕ) (last : Bool) where
   of-reading Malformed e = breaks
 
   due : (size put : ℕ) → Due log run at (nextIn (run .version) (run .ended) log at last size put)
-  unfolding nextIn nextOf
+  unfolding nextIn nextTurn
   due size put =
-      chosen (leb (put + longest) size) _ _
+      chosen (leb (put + longestLine) size) _ _
       (chosen (run .ended) _ _ stops
       (chosen (eqb (run .version) 0) _ _
       (chosen (leb (length log) at) _ _ (chosen last _ _ breaks stops) (of-opening (openedAs (drop at log)) refl))

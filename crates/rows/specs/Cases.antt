@@ -26,10 +26,10 @@ use Rattle.site.specs.Site.{nodes, n, g, setsSound, siteSound, actorSound}
 use Rattle.site.specs.Tests.{isNow, isStatus, isNode, counted, verdict, canDeliver, startTests}
 use Rattle.site.specs.Steps.{testsOf}
 use Rattle.rows.specs.Exactly.{Condition, NoneBefore, None, Tells, Tell, nothing, also, exactly, exactly-done, at-most}
-use Rattle.rows.specs.Named.{start, tick, report, deliver, shareTimeout, resendTimeout, command, ack, query, down, up, Beginning, named, isKind, takes}
+use Rattle.rows.specs.Named.{start, tick, report, deliver, shareTimeout, resendTimeout, command, ack, query, down, up, Beginning, named, isKind, phaseTakes}
 use Rattle.rows.specs.Outsiders.{outsider}
 use Rattle.rows.specs.Given.{given, given-is}
-use Rattle.rows.specs.Conditions.{lastClock, StartOutOfRange, SiteOutOfRange, table}
+use Rattle.rows.specs.Conditions.{lastClock, StartOutOfRange, SiteOutOfRange, refusalTable}
 use Rattle.rows.specs.Telling.{itself, above, from, other, negated, equal, _or_, both, spelled, worded, ofNamed, of-named, kind-is, kind-not}
 
 -- what Start is asked
@@ -52,14 +52,14 @@ start-case lent f k compromised status g = simp (one-number, and-assoc)
 -- which phases take a step, as the step's own tests have it
 abbrev Taken : Node → Type 0
 Taken node =
-    (takes (node .phase) report ≡ not (isDown node))
-    × (takes (node .phase) deliver ≡ isRunning node)
-    × (takes (node .phase) shareTimeout ≡ isRunning node)
-    × (takes (node .phase) resendTimeout ≡ isRunning node)
-    × (takes (node .phase) ack ≡ not (isDown node))
-    × (takes (node .phase) query ≡ isStarting node)
-    × (takes (node .phase) down ≡ not (isDown node))
-    × (takes (node .phase) up ≡ isDown node)
+    (phaseTakes (node .phase) report ≡ not (isDown node))
+    × (phaseTakes (node .phase) deliver ≡ isRunning node)
+    × (phaseTakes (node .phase) shareTimeout ≡ isRunning node)
+    × (phaseTakes (node .phase) resendTimeout ≡ isRunning node)
+    × (phaseTakes (node .phase) ack ≡ not (isDown node))
+    × (phaseTakes (node .phase) query ≡ isStarting node)
+    × (phaseTakes (node .phase) down ≡ not (isDown node))
+    × (phaseTakes (node .phase) up ≡ isDown node)
 
 taken : (store : Store) (phase : Phase) → Taken (record { phase = phase; store = store })
 taken store NotUp = (refl, refl, refl, refl, refl, refl, refl, refl)
@@ -90,7 +90,7 @@ module _ (site : Site) (lent : ℕ) (node : Node) where
       ∷ (1, ofNamed (named step .beginning) (beginningSound lent))
       ∷ (2, testOf2 step)
       ∷ (3, ofNamed (named step .actor) λ i. not (isIn (site .compromised) i))
-      ∷ (4, ofNamed (named step .actor) λ i. takes (node .phase) (named step .kind))
+      ∷ (4, ofNamed (named step .actor) λ i. phaseTakes (node .phase) (named step .kind))
       ∷ (5, ofNamed (named step .clock) (isNow site))
       ∷ (6, ofNamed (named step .clock) λ t. leb (lastClock site node (named step .actor) .0) (t .0))
       ∷ (7, ofNamed (named step .clock) λ t. ofNamed (named step .stamp) λ T. fresh T t)
@@ -178,7 +178,7 @@ fresh-tells T t = worded (λ h. omega arith, λ h. omega arith) (above (t .0 - 2
 
 module _ (site : Site) (lent : ℕ) (node : Node) (step : Step) where
   -- every row's test tells the row's condition
-  rows-tell : Tell (rowTests site lent node step) (table site lent node step)
+  rows-tell : Tell (rowTests site lent node step) (refusalTable site lent node step)
   rows-tell =
       let the = named step in
       also 16 (both (kind-not (the .kind) start) (site-tells site lent node step or of-named (the .actor) (actor-tells site node)))
@@ -189,7 +189,7 @@ module _ (site : Site) (lent : ℕ) (node : Node) (step : Step) where
       or of-named (the .status) (λ A. above A 1)
       or of-named (the .back) (λ back. above back 7))
       (also 3 (of-named (the .actor) λ i. negated (isIn (site .compromised) i))
-      (also 4 (of-named (the .actor) λ i. itself (takes (node .phase) (the .kind)))
+      (also 4 (of-named (the .actor) λ i. itself (phaseTakes (node .phase) (the .kind)))
       (also 5 (of-named (the .clock) λ t. both (other (t .0) (g site .0)) (other (t .0) (g site .0 + 1)))
       (also 6 (of-named (the .clock) λ t. above (lastClock site node (the .actor) .0) (t .0))
       (also 7 (of-named (the .clock) λ t. of-named (the .stamp) λ T. fresh-tells T t)
@@ -212,11 +212,11 @@ module _ (site : Site) (lent : ℕ) (node : Node) (step : Step) where
 
   -- A step is answered with k exactly when the condition of row k is met and that of no row in front of it.
   pub told : (k : ℕ) → 0 < k
-      → (given site lent node step ≡ k) ↔ (NoneBefore k (table site lent node step) × Condition k (table site lent node step))
+      → (given site lent node step ≡ k) ↔ (NoneBefore k (refusalTable site lent node step) × Condition k (refusalTable site lent node step))
   told k pos = rw number (exactly rows-tell refl k pos)
 
   -- It is answered with 0 exactly when no row has its condition met,
-  pub told-done : (given site lent node step ≡ 0) ↔ None (table site lent node step)
+  pub told-done : (given site lent node step ≡ 0) ↔ None (refusalTable site lent node step)
   told-done = rw number (exactly-done rows-tell refl)
 
   -- and with no number above 16.

@@ -18,7 +18,7 @@ use Rattle.site.specs.declared.Site.{Site}
 use Rattle.site.specs.Site.{nodes, n, g}
 use Rattle.site.specs.Tests.{counted}
 use Rattle.rows.specs.Exactly.{Row}
-use Rattle.rows.specs.Named.{start, tick, shareTimeout, resendTimeout, command, down, named, Of, takes}
+use Rattle.rows.specs.Named.{start, tick, shareTimeout, resendTimeout, command, down, named, Of, phaseTakes}
 use Rattle.rows.specs.Outsiders.{Outsider}
 
 -- the last accepted clock of the acting node, or of the breaker where no node acts
@@ -56,7 +56,7 @@ module _ (site : Site) (lent : ℕ) (node : Node) (step : Step) where
 
   -- 4: "the node's phase does not take this step (Down of a down node, Up of another)"
   abbrev pub PhaseDoesNotTake : Type 0
-  PhaseDoesNotTake = Of (named step .actor) λ i. takes (node .phase) (named step .kind) ≡ false
+  PhaseDoesNotTake = Of (named step .actor) λ i. phaseTakes (node .phase) (named step .kind) ≡ false
 
   -- 5: "t is neither g nor g+1"
   abbrev pub NeitherNowNorNext : Type 0
@@ -141,8 +141,8 @@ module _ (site : Site) (lent : ℕ) (node : Node) (step : Step) where
   SiteOrRecordOutOfRange = (named step .kind ≡ start → ⊥) × (SiteOutOfRange ⊎ RecordOutOfRange)
 
   -- "Checks run in this order: 17, 16, then 1 for Start, then 2 to 15." (17 is the log's.)
-  abbrev pub table : List Row
-  table =
+  abbrev pub refusalTable : List Row
+  refusalTable =
       (16, SiteOrRecordOutOfRange)
       ∷ (1, StartOutOfRange)
       ∷ (2, OutsideItsRange)

@@ -9,8 +9,8 @@ use Rattle.steps.specs.declared.Step.the-variants.{Start, Tick, Report, Deliver
 use Rattle.node.specs.declared.Phase.{Phase}
 use Rattle.node.specs.declared.Phase.the-variants.{Starting, Running, Down as NotUp}
 
-pub data Kind : Type 0 where
-  start tick report deliver shareTimeout resendTimeout command ack query down up : Kind
+pub data StepKind : Type 0 where
+  start tick report deliver shareTimeout resendTimeout command ack query down up : StepKind
   deriving Discrete as Kind-discrete
 
 -- what Start gives
@@ -24,7 +24,7 @@ pub record Beginning : Type 0 where
 -- The kind of a step and what it names: the acting node (for Deliver, the receiver), the clock t, the status (Start's is judged with Start's other
 -- fields), the stamp T, the sender, the state number, `back`, and what Start gives. `none` where it names no such thing.
 pub record Named : Type 0 where
-  pub kind : Kind
+  pub kind : StepKind
   pub actor : Option ℕ
   pub clock : Option Dts
   pub status : Option ℕ
@@ -34,7 +34,7 @@ pub record Named : Type 0 where
   pub back : Option ℕ
   pub beginning : Option Beginning
 
-abbrev pub names : Kind → (actor : Option ℕ) (clock : Option Dts) (status : Option ℕ) (stamp : Option Dts) (sender number back : Option ℕ)
+abbrev pub names : StepKind → (actor : Option ℕ) (clock : Option Dts) (status : Option ℕ) (stamp : Option Dts) (sender number back : Option ℕ)
     → Option Beginning → Named
 names kind actor clock status stamp sender number back beginning =
     record {
@@ -68,19 +68,19 @@ abbrev pub Of : {A : Type 0} → Option A → (A → Type 0) → Type 0
 Of none P = ⊥
 Of (some a) P = P a
 
-abbrev pub decided : {P : Type 0} → Dec P → Bool
-decided (yes p) = true
-decided (no p) = false
+abbrev pub isYes : {P : Type 0} → Dec P → Bool
+isYes (yes p) = true
+isYes (no p) = false
 
-abbrev pub isKind : Kind → Kind → Bool
-isKind a b = decided (Kind-discrete a b)
+abbrev pub isKind : StepKind → StepKind → Bool
+isKind a b = isYes (Kind-discrete a b)
 
-abbrev pub among : Kind → List Kind → Bool
+abbrev pub among : StepKind → List StepKind → Bool
 among kind [] = false
 among kind (a ∷ others) = isKind kind a || among kind others
 
 -- "A starting node takes Report, Ack, Query and Down." A running one takes every step at a node but Query and Up, a down one Up alone.
-abbrev pub takes : Phase → Kind → Bool
-takes NotUp kind = among kind (up ∷ [])
-takes (Starting learned) kind = among kind (report ∷ ack ∷ query ∷ down ∷ [])
-takes (Running rec) kind = among kind (report ∷ deliver ∷ shareTimeout ∷ resendTimeout ∷ ack ∷ down ∷ [])
+abbrev pub phaseTakes : Phase → StepKind → Bool
+phaseTakes NotUp kind = among kind (up ∷ [])
+phaseTakes (Starting learned) kind = among kind (report ∷ ack ∷ query ∷ down ∷ [])
+phaseTakes (Running rec) kind = among kind (report ∷ deliver ∷ shareTimeout ∷ resendTimeout ∷ ack ∷ down ∷ [])

@@ -8,7 +8,7 @@ use Rattle.steps.specs.declared.Step.{Step}
 use Rattle.node.specs.declared.Node.{Node}
 use Rattle.site.specs.declared.Site.{Site}
 use Rattle.rows.specs.Exactly.{NoneBefore, None}
-use Rattle.rows.specs.Conditions.{StartOutOfRange, OutsideItsRange, ActorCompromised, PhaseDoesNotTake, NeitherNowNorNext, BelowLastClock, NotFresh, NotVouchedFor, ReportNotNew, StatusAlready, StampNotAbove, NotArmed, TooFewChanges, EnoughDown, TickAtTheLast, SiteOrRecordOutOfRange, table}
+use Rattle.rows.specs.Conditions.{StartOutOfRange, OutsideItsRange, ActorCompromised, PhaseDoesNotTake, NeitherNowNorNext, BelowLastClock, NotFresh, NotVouchedFor, ReportNotNew, StatusAlready, StampNotAbove, NotArmed, TooFewChanges, EnoughDown, TickAtTheLast, SiteOrRecordOutOfRange, refusalTable}
 use Rattle.rows.specs.Given.{given}
 use Rattle.rows.specs.Cases.{told, told-done, told-at-most}
 
@@ -20,10 +20,10 @@ module _ (site : Site) (lent : ℕ) (node : Node) (step : Step) where
 
   -- no row that is checked before this one has its condition met
   abbrev pub Earlier : ℕ → Type 0
-  Earlier number = NoneBefore number (table site lent node step)
+  Earlier number = NoneBefore number (refusalTable site lent node step)
 
   -- "done": no row at all has its condition met
-  pub row-0 : Given 0 ↔ None (table site lent node step)
+  pub row-0 : Given 0 ↔ None (refusalTable site lent node step)
   row-0 = told-done site lent node step
 
   -- "Start: f, k, status or g out of range, a compromised number not below n, more than f compromised, table shorter than n"

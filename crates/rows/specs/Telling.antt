@@ -7,7 +7,7 @@ use mathlib.Core.Option.{Option, some, none}
 use lib.Dec.{eqb, leb, ltb}
 use borrow.Author.Tests.{ltb-false, le-ltb, leb-false, lt-leb, eqb-true, eqb-false, eq-eqb, ne-eqb, not-false}
 use Rattle.rows.specs.Exactly.{Tells}
-use Rattle.rows.specs.Named.{Kind, Kind-discrete, decided, isKind, Of}
+use Rattle.rows.specs.Named.{StepKind, Kind-discrete, isYes, isKind, Of}
 
 pub itself : (a : Bool) → Tells a (a ≡ false)
 itself a = (λ e. e, λ e. e)
@@ -69,16 +69,16 @@ of-named none tells = (true≢false, absurd)
 of-named (some a) tells = tells a
 
 -- a test of the kind
-pub kind-is : (a b : Kind) → Tells (not (isKind a b)) (a ≡ b)
+pub kind-is : (a b : StepKind) → Tells (not (isKind a b)) (a ≡ b)
 kind-is a b = go (Kind-discrete a b)
   where
-    go : (d : Dec (a ≡ b)) → Tells (not (decided d)) (a ≡ b)
+    go : (d : Dec (a ≡ b)) → Tells (not (isYes d)) (a ≡ b)
     go (yes e) = (λ h. e, λ h. refl)
     go (no ne) = (λ h. absurd (true≢false h), λ e. absurd (ne e))
 
-pub kind-not : (a b : Kind) → Tells (isKind a b) (a ≡ b → ⊥)
+pub kind-not : (a b : StepKind) → Tells (isKind a b) (a ≡ b → ⊥)
 kind-not a b = go (Kind-discrete a b)
   where
-    go : (d : Dec (a ≡ b)) → Tells (decided d) (a ≡ b → ⊥)
+    go : (d : Dec (a ≡ b)) → Tells (isYes d) (a ≡ b → ⊥)
     go (yes e) = (λ h. absurd (true≢false h), λ ne. absurd (ne e))
     go (no ne) = (λ h. ne, λ h. refl)

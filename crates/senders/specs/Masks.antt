@@ -1,8 +1,8 @@
 -- A set of senders as a mask: "bit i is node i".
-use Prim.Native.Nat.{ℕ, _/_, _%_, _^_}
+use Prim.Native.Nat.{ℕ, _+_, _/_, _%_, _^_}
 use mathlib.Core.Bool.{Bool, cond}
 use lib.Bits.{bitOr, bitXor}
-use lib.Dec.{eqb, ltb}
+use lib.Dec.{eqb, leb, ltb}
 use Rattle.senders.specs.Sets.{count}
 
 -- how many senders a mask has room for
@@ -16,6 +16,10 @@ isIn mask i = eqb (mask / 2 ^ i % 2) 1
 -- how many senders are in the set
 unfoldable pub size : ℕ → ℕ
 size mask = count room (isIn mask)
+
+-- "The threshold is f + 1": the set has at least so many senders
+abbrev pub enough : ℕ → ℕ → Bool
+enough mask f = leb (f + 1) (size mask)
 
 -- the set with sender i too
 unfoldable pub joined : ℕ → ℕ → ℕ

@@ -1,8 +1,6 @@
 // Sets of senders. A set is a mask of 16 bits: bit i is sender i.
-ghost use Prim.Native.Nat.{_+_};
 ghost use mathlib.Core.Path.{_≡_};
-ghost use lib.Dec.{leb};
-ghost use Rattle.senders.specs.Masks.{isIn, size, joined, without, together, within};
+ghost use Rattle.senders.specs.Masks.{isIn, size, enough, joined, without, together, within};
 
 // Whether a sender is in a set. Nobody from 16 on is.
 pub fn is_in(mask: u16, sender: u8) -> bool
@@ -40,7 +38,7 @@ pub fn forget(mask: u16, sender: u8) -> u16
 
 // Whether a set has at least f + 1 members.
 pub fn is_enough(mask: u16, f: u8) -> bool
-    ensures { λ out. ⌜ out ≡ leb (f + 1) (size mask) ⌝ }
+    ensures { λ out. ⌜ out ≡ enough mask f ⌝ }
 {
     f as u32 + 1 <= u16::count_ones(mask)
 }

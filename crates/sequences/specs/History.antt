@@ -12,7 +12,7 @@ use Rattle.steps.specs.declared.Step.{Step}
 use Rattle.site.specs.declared.Sent.{Sent}
 use Rattle.site.specs.declared.Answer.{Answer}
 use Rattle.site.specs.declared.Answer.the-variants.{Done, Refused}
-use Rattle.rows.specs.Named.{Kind, report, ack, query, down, up, command, Beginning, named, isKind, among}
+use Rattle.rows.specs.Named.{StepKind, report, ack, query, down, up, command, Beginning, named, isKind, among}
 
 -- a step with its answer
 pub record Entry : Type 0 where
@@ -24,7 +24,7 @@ pub record Accepted : Type 0 where
   pub step : Step
   pub sent : Sent
 
-abbrev pub stepKind : Accepted → Kind
+abbrev pub stepKind : Accepted → StepKind
 stepKind a = named (a .step) .kind
 
 -- ---- since the last accepted Start
@@ -89,7 +89,7 @@ life [] = []
 life (a ∷ rest) = cond (among (stepKind a) (down ∷ up ∷ [])) [] (a ∷ life rest)
 
 -- one of these kinds is among the steps
-abbrev pub any : List Kind → List Accepted → Bool
+abbrev pub any : List StepKind → List Accepted → Bool
 any kinds [] = false
 any kinds (a ∷ rest) = among (stepKind a) kinds || any kinds rest
 

@@ -14,7 +14,7 @@ use Rattle.store.specs.declared.Store.{Store}
 use Rattle.store.specs.declared.Earliest.{Earliest}
 use Rattle.store.specs.declared.Earliest.the-variants.{Stamp, Nothing}
 use Rattle.store.specs.Store.{hasPlace, put, movedTo}
-use Rattle.store.specs.Held.{held, takes, held-moved, clock-put}
+use Rattle.store.specs.Held.{held, hasRoomFor, held-moved, clock-put}
 use Rattle.store.specs.HeldLaws.{takes-near, held-taken, from-one, clock-at}
 use Rattle.store.specs.Earliest.{earliest}
 use Rattle.pairs.specs.declared.Pair.{Pair}
@@ -24,7 +24,7 @@ use Rattle.pairs.specs.declared.Known.the-variants.{No}
 use Rattle.pairs.specs.Pair.{pair, listed, has}
 use Rattle.node.specs.declared.Record.{Record}
 use Rattle.node.specs.State.{attempts}
-use Rattle.node.specs.Combining.{putAll, commanded, combined}
+use Rattle.node.specs.Combining.{putAll, commanding, combined}
 
 -- ---- lists of shares
 
@@ -98,7 +98,7 @@ held-all s i (Two p q) A T j l n =
     first : Store
     first = put s i (p .status) (p .stamp)
 
-    second : takes first i (q .status) (q .stamp) ≡ true
+    second : hasRoomFor first i (q .status) (q .stamp) ≡ true
     second = takes-near first i (q .status) (q .stamp) l (n .1 .0) (rw (clock-put s i (p .status) (p .stamp)) (n .1 .1))
 
     tidy : (m k z : Bool) → (k && z || (m && z || held s A T j)) ≡ (z && (m || (k || false)) || held s A T j)

@@ -14,7 +14,7 @@ use Rattle.pairs.specs.declared.Pair.{Pair}
 use Rattle.pairs.specs.declared.Known.the-variants.{Yes, No}
 use Rattle.node.specs.declared.Node.{Node}
 use Rattle.breaker.specs.declared.Breaker.{Breaker}
-use Rattle.breaker.specs.Breaker.{breakerSound, changeAt, pairAt, most}
+use Rattle.breaker.specs.Breaker.{breakerSound, changeAt, pairAt, mostChanges}
 use Rattle.site.specs.declared.Site.{Site}
 use Rattle.site.specs.Site.{n, g, mostF, mostK, firstG, lastG, numbersSound, setsSound, siteSound, actorSound}
 use Rattle.site.specs.Tests.{isNow, isNode, isStatus}
@@ -133,4 +133,4 @@ taken site lent node i t fields phase more h =
 pub remembered-change : (breaker : Breaker) (back : ℕ) → back ≤ 7 → back + 1 ≤ breaker .changes .count → changeAt breaker back ≡ Yes (pairAt (breaker .changes) back)
 unfolding changeAt
 remembered-change breaker back a b =
-    simp (lt-ltb back (breaker .changes .count) (omega arith), lt-ltb back most (omega arith))
+    simp (lt-ltb back (breaker .changes .count) (omega arith), lt-ltb back mostChanges (omega arith))

@@ -30,9 +30,9 @@ use Rattle.site.specs.Site.{nodes, g}
 use Rattle.site.specs.Tests.{isNode, isStatus, startTests}
 use Rattle.site.specs.Effects.{silence, withMade, startedSite, firstRecord, ticked, act, ackedKnown, commanded}
 use Rattle.site.specs.Steps.{testsOf, effectOf}
-use Rattle.lent.specs.Lent.{recordOf, outOf, begun, tableAfter}
+use Rattle.lent.specs.Lent.{recordOf, outOf, firstRecords, tableAfter}
 use Rattle.steps.specs.Actor.{actor}
-use Rattle.lent.specs.Lent.{after as tableAfterAnswer}
+use Rattle.lent.specs.Lent.{tableAfterAnswer}
 use Rattle.lent.specs.LentLaws.{by-tests}
 use Rattle.rows.specs.Named.{Beginning}
 use Rattle.sequences.specs.History.{Entry, Accepted, lastStart, accepted, atNode}
@@ -52,7 +52,7 @@ front (suc n) rule l zero d h = refl
 front (suc n) rule l (suc j) d h = front n (λ i. rule (suc i)) l j d (le-of-suc-le-suc h)
 
 starts : (records : List Node) (b : Beginning) → b .f ≤ 4 → b .k ≤ 3 → size (b .compromised) ≤ b .f
-    → Keeps b [] (startedSite (b .f) (b .k) (b .compromised) (b .status) (b .g)) (begun (nodes (b .f) (b .k)) (b .compromised) records)
+    → Keeps b [] (startedSite (b .f) (b .k) (b .compromised) (b .status) (b .g)) (firstRecords (nodes (b .f) (b .k)) (b .compromised) records)
 unfolding startedSite firstRecord
 starts records b most-f most-k few =
     record {
@@ -86,7 +86,7 @@ module _ (h : List Entry) (site : Site) (records : List Node) (before : (b : Beg
   done (Start f k compromised status g₀) e = λ b q.
       let ok = done-passed (startTests (length records) f k compromised status g₀) refl e in
       let is : record { f = f; k = k; compromised = compromised; status = status; g = g₀ } ≡ b = ap (λ (o : Option Beginning). Option·getD o b) q in
-      subst (λ (x : Beginning). Keeps x [] (startedSite f k compromised status g₀) (begun (nodes f k) compromised records)) is
+      subst (λ (x : Beginning). Keeps x [] (startedSite f k compromised status g₀) (firstRecords (nodes f k) compromised records)) is
       (starts records (record { f = f; k = k; compromised = compromised; status = status; g = g₀ }) (leb-true f 4 (each-passed 0 _ ok))
       (leb-true k 3 (each-passed 1 _ ok)) (leb-true (size compromised) f (each-passed 5 _ ok)))
   done Tick e = λ b q.

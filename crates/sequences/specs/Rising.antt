@@ -26,7 +26,7 @@ use Rattle.site.specs.Steps.{testsOf, effectOf}
 use Rattle.lent.specs.Lent.{recordOf, outOf}
 use Rattle.steps.specs.Actor.{actor}
 use Rattle.lent.specs.LentLaws.{by-tests}
-use Rattle.rows.specs.Named.{Kind, command, isKind, named, Of}
+use Rattle.rows.specs.Named.{StepKind, command, isKind, named, Of}
 use Rattle.sequences.specs.History.{Entry, Accepted, stepKind, accepted}
 use Rattle.sequences.specs.Moments.{Moment, Reached, from, then}
 use Rattle.sequences.specs.Demand.{Each, Changed}
@@ -44,8 +44,8 @@ each-so P Q so (a ∷ before) h = (λ is. (of-so (named (a .step) .stamp) (h .0 
     of-so (some T) q = so T q
     of-so none q = q
 
-other : (k : Kind) → isKind k command ≡ false → {A : Type 0} → k ≡ command → A
-other k e q = absurd (false≢true (sym e ∙ ap (λ (x : Kind). isKind x command) q))
+other : (k : StepKind) → isKind k command ≡ false → {A : Type 0} → k ≡ command → A
+other k e q = absurd (false≢true (sym e ∙ ap (λ (x : StepKind). isKind x command) q))
 
 stampOf : Known → ℕ
 stampOf (Yes p) = p .stamp .0

@@ -31,7 +31,7 @@ use Rattle.node.specs.declared.Node.{Node}
 use Rattle.node.specs.declared.Acted.{Acted}
 use Rattle.node.specs.declared.combining.Combined.{Combined}
 use Rattle.node.specs.State.{attempts}
-use Rattle.node.specs.Combining.{putAll, commanded, combined, followed, finishedRunning, finished}
+use Rattle.node.specs.Combining.{putAll, commanding, combined, followed, finishedRunning, finished}
 use Rattle.node.specs.CombiningLaws.{combined-b}
 use Rattle.node.specs.Events.{reported, reportRunning, delivered, shareTimedOut, again, resendTimedOut, later, ackRunning, acked, queried, wentDown, wentUp}
 use Rattle.steps.specs.declared.Step.{Step}
@@ -47,7 +47,7 @@ use Rattle.site.specs.Effects.{silence, act, ackedKnown}
 use Rattle.site.specs.Steps.{testsOf, effectOf}
 use Rattle.lent.specs.Lent.{recordOf, outOf, tableAfter}
 use Rattle.steps.specs.Actor.{actor}
-use Rattle.lent.specs.Lent.{after as tableAfterAnswer}
+use Rattle.lent.specs.Lent.{tableAfterAnswer}
 use Rattle.lent.specs.LentLaws.{by-tests, named-within}
 use Rattle.rows.specs.Named.{named, Of}
 use Rattle.sequences.specs.Demand.{Always, MovedBySending}

@@ -6,7 +6,7 @@ use lib.Dec.{eqb, leb, ltb}
 use Rattle.refusals.specs.Tests.{Test}
 use Rattle.time.specs.declared.Dts.{Dts}
 use Rattle.time.specs.Fresh.{fresh}
-use Rattle.senders.specs.Masks.{isIn, size, within, together}
+use Rattle.senders.specs.Masks.{isIn, size, enough, within, together}
 use Rattle.store.specs.Store.{sendersOf}
 use Rattle.store.specs.Held.{held}
 use Rattle.node.specs.declared.Node.{Node}
@@ -30,7 +30,7 @@ counted site A T = together (site .compromised) (sendersOf (site .made) A T)
 
 -- "the signature verdict is yes exactly when [they] number at least f+1"
 abbrev pub verdict : Site → ℕ → Dts → Bool
-verdict site A T = leb (site .f + 1) (size (counted site A T))
+verdict site A T = enough (counted site A T) (site .f)
 
 -- "A compromised node may deliver any share in its own name. A correct sender's share can be delivered once made"
 abbrev pub canDeliver : Site → ℕ → ℕ → Dts → Bool

@@ -2,10 +2,10 @@
 use Prim.Native.Nat.{ℕ, _+_, _-_, _^_}
 use mathlib.Core.Bool.{Bool, _&&_, cond}
 use mathlib.Core.List.{List, [], _∷_}
-use lib.Dec.{leb, ltb}
+use lib.Dec.{ltb}
 use Rattle.time.specs.declared.Dts.{Dts}
 use Rattle.time.specs.Fresh.{window}
-use Rattle.senders.specs.Masks.{size}
+use Rattle.senders.specs.Masks.{enough}
 use Rattle.tables.specs.Tables.{table}
 use Rattle.store.specs.declared.Store.{Store}
 use Rattle.store.specs.declared.Earliest.{Earliest}
@@ -24,7 +24,7 @@ freshStamps clock = table stamps (freshStamp clock)
 
 -- the stamp is above the bound, is one that 32 bits hold, and is held from at least f + 1 senders
 unfoldable pub qualifies : Store → ℕ → Dts → ℕ → ℕ → Bool
-qualifies s action above f T = ltb (above .0) T && ltb T (2 ^ 32) && leb (f + 1) (size (sendersOf s action (dts T)))
+qualifies s action above f T = ltb (above .0) T && ltb T (2 ^ 32) && enough (sendersOf s action (dts T)) f
 
 -- the first of a list that passes a test
 abbrev pub firstOf : (ℕ → Bool) → List ℕ → Earliest

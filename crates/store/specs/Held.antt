@@ -19,8 +19,8 @@ unfoldable pub held : Store → ℕ → Dts → ℕ → Bool
 held s action T sender = isIn (sendersOf s action T) sender
 
 -- the store has room for the share: an action, a sender, a fresh stamp
-unfoldable pub takes : Store → ℕ → ℕ → Dts → Bool
-takes s sender action T = hasPlace (s .clock) action T && ltb sender room
+unfoldable pub hasRoomFor : Store → ℕ → ℕ → Dts → Bool
+hasRoomFor s sender action T = hasPlace (s .clock) action T && ltb sender room
 
 pub held-empty : (clock : Dts) (a : ℕ) (T : Dts) (i : ℕ) → held (empty clock) a T i ≡ false
 unfolding held sendersOf empty
@@ -86,8 +86,8 @@ held-put-at s i a T b U j false ha hb = simp (hb, told-apart (s .clock) a b T U 
 
 -- After a share is put, held is that share, where the store takes it, and all that was held before.
 pub held-put : (s : Store) (i a : ℕ) (T : Dts) (b : ℕ) (U : Dts) (j : ℕ)
-    → held (put s i a T) b U j ≡ (takes s i a T && (eqb b a && eqb (U .0) (T .0)) && eqb j i || held s b U j)
-unfolding takes put
+    → held (put s i a T) b U j ≡ (hasRoomFor s i a T && (eqb b a && eqb (U .0) (T .0)) && eqb j i || held s b U j)
+unfolding hasRoomFor put
 held-put s i a T b U j = go (hasPlace (s .clock) a T) refl
   where
     go : (e : Bool) → hasPlace (s .clock) a T ≡ e

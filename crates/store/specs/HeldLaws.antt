@@ -11,14 +11,14 @@ use Rattle.time.specs.Fresh.{fresh}
 use Rattle.senders.specs.Masks.{room}
 use Rattle.store.specs.declared.Store.{Store}
 use Rattle.store.specs.Store.{hasPlace, put, movedTo}
-use Rattle.store.specs.Held.{held, takes, held-put, clock-moved}
+use Rattle.store.specs.Held.{held, hasRoomFor, held-put, clock-moved}
 
 -- a store has room for what is near its clock
-pub takes-near : (s : Store) (i A : ℕ) (T : Dts) → i < room → A ≤ 1 → fresh T (s .clock) ≡ true → takes s i A T ≡ true
-unfolding takes hasPlace
+pub takes-near : (s : Store) (i A : ℕ) (T : Dts) → i < room → A ≤ 1 → fresh T (s .clock) ≡ true → hasRoomFor s i A T ≡ true
+unfolding hasRoomFor hasPlace
 takes-near s i A T l a f = simp (lt-ltb i room l, lt-ltb A 2 (omega arith), f)
 
-pub held-taken : (s : Store) (i a : ℕ) (T : Dts) (b : ℕ) (U : Dts) (j : ℕ) → takes s i a T ≡ true
+pub held-taken : (s : Store) (i a : ℕ) (T : Dts) (b : ℕ) (U : Dts) (j : ℕ) → hasRoomFor s i a T ≡ true
     → held (put s i a T) b U j ≡ (eqb b a && eqb (U .0) (T .0) && eqb j i || held s b U j)
 held-taken s i a T b U j e =
     held-put s i a T b U j ∙ ap (λ (x : Bool). x && (eqb b a && eqb (U .0) (T .0)) && eqb j i || held s b U j) e
@@ -27,7 +27,7 @@ held-taken s i a T b U j e =
 pub from-one : (s : Store) (i a : ℕ) (U : Dts) (A : ℕ) (T : Dts) (j : ℕ) → held (put s i a U) A T j ≡ true
     → (((eqb A a && eqb (T .0) (U .0)) ≡ true) × (eqb j i ≡ true)) ⊎ (held s A T j ≡ true)
 from-one s i a U A T j e =
-    go (takes s i a U) (eqb A a && eqb (T .0) (U .0)) (eqb j i) (held s A T j) (sym (held-put s i a U A T j) ∙ e)
+    go (hasRoomFor s i a U) (eqb A a && eqb (T .0) (U .0)) (eqb j i) (held s A T j) (sym (held-put s i a U A T j) ∙ e)
   where
     go : (w x y z : Bool) → (w && x && y || z) ≡ true → ((x ≡ true) × (y ≡ true)) ⊎ (z ≡ true)
     go true true true z e = inl (refl, refl)

@@ -11,7 +11,7 @@ use Rattle.senders.specs.Sets.{count, count-window}
 use Rattle.store.specs.declared.Store.{Store}
 use Rattle.store.specs.Store.{actions, stamps, places, put}
 use Rattle.store.specs.Places.{bounds}
-use Rattle.store.specs.Held.{held, takes, held-put, held-fresh}
+use Rattle.store.specs.Held.{held, hasRoomFor, held-put, held-fresh}
 use Rattle.store.specs.Earliest.{dts}
 
 -- how many stamps below n a sender is held at, for an action
@@ -33,8 +33,8 @@ at-most-ten s n i = let close = five s n 0 i in let trip = five s n 1 i in omega
 pub others-kept : (s : Store) (i a : ℕ) (T : Dts) (b : ℕ) (U : Dts) (j : ℕ) → (j ≡ i → ⊥) → held (put s i a T) b U j ≡ held s b U j
 others-kept s i a T b U j ne =
     held-put s i a T b U j
-    ∙ ap (λ (x : Bool). takes s i a T && (eqb b a && eqb (U .0) (T .0)) && x || held s b U j) (ne-eqb j i ne)
-    ∙ no (takes s i a T && (eqb b a && eqb (U .0) (T .0)))
+    ∙ ap (λ (x : Bool). hasRoomFor s i a T && (eqb b a && eqb (U .0) (T .0)) && x || held s b U j) (ne-eqb j i ne)
+    ∙ no (hasRoomFor s i a T && (eqb b a && eqb (U .0) (T .0)))
   where
     no : (x : Bool) → (x && false || held s b U j) ≡ held s b U j
     no true = refl

@@ -26,11 +26,11 @@ placesIn (suc k) n = cond (ltb n 10) 1 (suc (placesIn k (n / 10)))
 abbrev pub most : ℕ
 most = 20
 
-abbrev pub places : ℕ → ℕ
-places n = placesIn most n
+abbrev pub digitCount : ℕ → ℕ
+digitCount n = placesIn most n
 
 unfoldable pub decimal : ℕ → List ℕ
-decimal n = spelled (places n) n
+decimal n = spelled (digitCount n) n
 
 -- ---- laws
 
@@ -50,7 +50,7 @@ places-le (suc k) n = go (ltb n 10) (places-le k (n / 10))
 
 pub length-decimal : (n : ℕ) → length (decimal n) ≤ most
 unfolding decimal
-length-decimal n = rw (length-spelled (places n) n) (places-le most n)
+length-decimal n = rw (length-spelled (digitCount n) n) (places-le most n)
 
 ten-pos : (v : ℕ) → 1 ≤ 10 ^ v
 ten-pos zero = omega arith
@@ -110,11 +110,11 @@ more-room zero k n h l = ap (λ (i : ℕ). placesIn i n) (zero-add k)
 more-room (suc d) k n h l = ap (λ (i : ℕ). placesIn i n) (suc-add d k) ∙ one-more (d + k) n (omega arith) (wider d k n l) ∙ more-room d k n h l
 
 -- of a number of at most 20 digits: 8 and 16 digits more than without the last 8 and 16
-pub places-8 : (n : ℕ) → 10 ^ 8 ≤ n → n / 10 ^ 8 < 10 ^ 12 → places n ≡ places (n / 10 ^ 8) + 8
-places-8 n h l = places-up 8 12 n h ∙ ap (λ (i : ℕ). 8 + i) (sym (more-room 8 12 (n / 10 ^ 8) (lit< tt) l)) ∙ add-comm 8 (places (n / 10 ^ 8))
+pub places-8 : (n : ℕ) → 10 ^ 8 ≤ n → n / 10 ^ 8 < 10 ^ 12 → digitCount n ≡ digitCount (n / 10 ^ 8) + 8
+places-8 n h l = places-up 8 12 n h ∙ ap (λ (i : ℕ). 8 + i) (sym (more-room 8 12 (n / 10 ^ 8) (lit< tt) l)) ∙ add-comm 8 (digitCount (n / 10 ^ 8))
 
-pub places-16 : (n : ℕ) → 10 ^ 16 ≤ n → n / 10 ^ 16 < 10 ^ 4 → places n ≡ places (n / 10 ^ 16) + 16
-places-16 n h l = places-up 16 4 n h ∙ ap (λ (i : ℕ). 16 + i) (sym (more-room 16 4 (n / 10 ^ 16) (lit< tt) l)) ∙ add-comm 16 (places (n / 10 ^ 16))
+pub places-16 : (n : ℕ) → 10 ^ 16 ≤ n → n / 10 ^ 16 < 10 ^ 4 → digitCount n ≡ digitCount (n / 10 ^ 16) + 16
+places-16 n h l = places-up 16 4 n h ∙ ap (λ (i : ℕ). 16 + i) (sym (more-room 16 4 (n / 10 ^ 16) (lit< tt) l)) ∙ add-comm 16 (digitCount (n / 10 ^ 16))
 
 -- the highest of the last digits first
 spelled-front : (j n : ℕ) → spelled (suc j) n ≡ (n / 10 ^ j % 10 + 48) ∷ spelled j n

@@ -22,7 +22,7 @@ use Rattle.site.specs.Effects.{Message, Share, Command, Ack, numberOf, messages
 use Rattle.text.specs.Puts.{Puts, then, set-front}
 use Rattle.text.specs.Decimal.{decimal, length-decimal}
 use Rattle.text.specs.Line.{pairText, messageText, afterCommas, sentText, tailText, shownStatus, shownStamp, lineOf}
-use Rattle.text.specs.Lines.{longest, sentMessages, lineText, lineBytes, lineNext}
+use Rattle.text.specs.Lines.{longestLine, sentMessages, lineText, lineBytes, lineNext}
 
 -- nothing put
 pub puts-nothing : (l : List ℕ) (at : ℕ) → Puts l at [] l at
@@ -151,7 +151,7 @@ length-head number refusal status stamp =
     (arith, length-append (decimal number) (32 ∷ (decimal refusal ++ (32 ∷ status ∷ 32 ∷ decimal stamp))), length-append (decimal refusal) (32 ∷ status ∷ 32 ∷ decimal stamp), length-decimal number, length-decimal refusal, length-decimal stamp)
 
 -- a head and a tail are a line
-pub line-put : (number refusal : ℕ) (site : Site) (i : ℕ) (answer : Answer) (status stamp : ℕ) {l l1 l2 : List ℕ} {at next r : ℕ} → at + longest ≤ length l
+pub line-put : (number refusal : ℕ) (site : Site) (i : ℕ) (answer : Answer) (status stamp : ℕ) {l l1 l2 : List ℕ} {at next r : ℕ} → at + longestLine ≤ length l
     → status ≡ shownStatus site → stamp ≡ shownStamp site → refusal ≡ numberOf answer
     → Puts l at (decimal number ++ (32 ∷ (decimal refusal ++ (32 ∷ status ∷ 32 ∷ decimal stamp)))) l1 next → Puts l1 next (tailText i (messagesOf answer)) l2 r
     → (l2 ≡ lineBytes l at (lineText number site i answer)) × (r ≡ lineNext l at (lineText number site i answer))
@@ -159,5 +159,5 @@ unfolding lineOf lineBytes lineNext
 line-put number refusal site i answer status stamp {l} {l1} {l2} {at} {next} {r} h es et er p q =
     let shown = subst₂ (λ (x y : ℕ). Puts l at (decimal number ++ (32 ∷ (decimal refusal ++ (32 ∷ x ∷ 32 ∷ decimal y)))) l1 next) es et p in
     let whole = then (subst (λ (x : ℕ). Puts l at (decimal number ++ (32 ∷ (decimal x ++ (32 ∷ shownStatus site ∷ 32 ∷ decimal (shownStamp site))))) l1 next) er shown) q in
-    let room = le-leb (at + longest) (length l) h in
+    let room = le-leb (at + longestLine) (length l) h in
     (simp room (whole .bytes), simp room (whole .place))

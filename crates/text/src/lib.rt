@@ -8,11 +8,11 @@ ghost use mathlib.Core.List.{[], _∷_};
 ghost use lib.ListN.{length};
 ghost use lib.Seq.{sets};
 ghost use Rattle.text.specs.Puts.{Puts};
-ghost use Rattle.text.specs.Decimal.{places, spelled, decimal};
+ghost use Rattle.text.specs.Decimal.{digitCount, spelled, decimal};
 
 fn few_places(n: u64) -> usize
     requires { ⌜ n < 10 ^ 8 ⌝ }
-    ensures { λ out. ⌜ out ≡ places n ⌝ }
+    ensures { λ out. ⌜ out ≡ digitCount n ⌝ }
 {
     if n < 10 {
         return 1;
@@ -40,7 +40,7 @@ fn few_places(n: u64) -> usize
 
 // How many digits a number takes.
 fn places_of(n: u64) -> usize
-    ensures { λ out. ⌜ out ≡ places n ⌝ }
+    ensures { λ out. ⌜ out ≡ digitCount n ⌝ }
 {
     if n < 100000000 {
         return few_places(n);

@@ -31,8 +31,8 @@ discretisingTests reading interval =
     ∷ []
 
 -- "A refused discretising gives stamp 0"
-abbrev pub refused : ℕ → Discretised
-refused number = record { refusal = number; stamp = record { 0 = 0 } }
+abbrev pub refusedReading : ℕ → Discretised
+refusedReading number = record { refusal = number; stamp = record { 0 = 0 } }
 
 unfoldable pub discretised : Micros → Micros → Discretised
 discretised reading interval =

@@ -30,8 +30,8 @@ pub quotients : (i a b : ℕ) → 0 < i → a ≤ b → b ≤ a + i → (b / i �
 quotients i a b h l m = equal-or-next (a / i) (b / i) (div-mono i a b h l) (rw (add-div-right a h) at (div-mono i b (a + i) h m))
 
 -- a reading is accepted
-abbrev pub Accepted : Micros → Micros → Type 0
-Accepted reading interval = discretised reading interval .refusal ≡ 0
+abbrev pub AcceptedReading : Micros → Micros → Type 0
+AcceptedReading reading interval = discretised reading interval .refusal ≡ 0
 
 abbrev pub stampOf : Micros → Micros → ℕ
 stampOf reading interval = discretised reading interval .stamp .0
@@ -40,21 +40,21 @@ and-left : (a b : Bool) → (a && b) ≡ true → a ≡ true
 and-left true b e = refl
 and-left false b e = absurd (false≢true e)
 
-all-passed : (reading interval : Micros) → Accepted reading interval → passed (discretisingTests reading interval) ≡ true
+all-passed : (reading interval : Micros) → AcceptedReading reading interval → passed (discretisingTests reading interval) ≡ true
 unfolding discretised
 all-passed reading interval e = done-passed (discretisingTests reading interval) refl e
 
-accepted-stamp : (reading interval : Micros) → Accepted reading interval → stampOf reading interval ≡ wholePart reading interval
+accepted-stamp : (reading interval : Micros) → AcceptedReading reading interval → stampOf reading interval ≡ wholePart reading interval
 unfolding discretised
 accepted-stamp reading interval e = simp (all-passed reading interval e)
 
-accepted-interval : (reading interval : Micros) → Accepted reading interval → 0 < interval .0
+accepted-interval : (reading interval : Micros) → AcceptedReading reading interval → 0 < interval .0
 unfolding passed
 accepted-interval reading interval e =
     let short : leb shortestInterval (interval .0) ≡ true = and-left _ _ (and-left _ _ (all-passed reading interval e)) in
     omega (arith, leb-true shortestInterval (interval .0) short)
 
-pub neighbours : (x y interval : Micros) → Accepted x interval → Accepted y interval → x .0 ≤ y .0 → y .0 ≤ x .0 + interval .0
+pub neighbours : (x y interval : Micros) → AcceptedReading x interval → AcceptedReading y interval → x .0 ≤ y .0 → y .0 ≤ x .0 + interval .0
     → (stampOf y interval ≡ stampOf x interval) ⊎ (stampOf y interval ≡ stampOf x interval + 1)
 neighbours x y interval ax ay l m =
     rw (accepted-stamp x interval ax, accepted-stamp y interval ay)

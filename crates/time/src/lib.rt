@@ -1,6 +1,6 @@
 // Clock readings in microseconds, discretised time stamps (DTS), and what is asked of them.
 ghost use mathlib.Core.Path.{_≡_};
-ghost use Rattle.time.specs.Discretising.{refused, discretised, defaultInterval};
+ghost use Rattle.time.specs.Discretising.{refusedReading, discretised, defaultInterval};
 ghost use Rattle.time.specs.Fresh.{fresh, next};
 ghost use Rattle.time.specs.Newer.{newer};
 
@@ -28,7 +28,7 @@ pub struct Discretised {
 }
 
 fn refused(number: u8) -> Discretised
-    ensures { λ out. ⌜ out ≡ refused number ⌝ }
+    ensures { λ out. ⌜ out ≡ refusedReading number ⌝ }
 {
     Discretised {
         refusal: number,

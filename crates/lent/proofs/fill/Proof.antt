@@ -42,7 +42,7 @@ use denote.Exit.{yes}
 use Rattle.node.specs.declared.Node.{Node}
 use Rattle.node.specs.Events.{wentDown}
 use Rattle.site.specs.Effects.{firstRecord}
-use Rattle.lent.specs.Lent.{begun}
+use Rattle.lent.specs.Lent.{firstRecords}
 use Rattle.lent.specs.LentLaws.{begun-none, begun-more, begun-length}
 use Rattle.lent.proofs.Walk.{var, sets, lands, aims, stores, clears, bumps, locals, whiles, ends}
 use Rattle.lent.proofs.Rows.{nodeVal, node-tells}
@@ -83,17 +83,17 @@ module _ {M : Type 1} (𝓤 : URA M) (H : Heap 𝓤) (A : Atoms 𝓤) (W : Given
   abbrev Post : Val → SProp 𝓤
   Post = walkOf 𝓤 H A f.ended stayed (f.clauses 𝓤 H A mem run) .post (((κ, tt), (q, tt), tt, a, at), tt)
 
-  exits : ent 𝓤 (⋆ 𝓤 H A (Had W T.the-row κ q b o γ (begun n mask ys))) (Post vunit)
+  exits : ent 𝓤 (⋆ 𝓤 H A (Had W T.the-row κ q b o γ (firstRecords n mask ys))) (Post vunit)
   exits =
-      qed W (Had W T.the-row κ q b o γ (begun n mask ys)) ∵ suffices ! _ (ends-at 𝓤 H A f.ended stayed (f.clauses 𝓤 H A mem run) W (((κ, tt), (q, tt), tt, a, at), tt) vunit tt (begun n mask ys, (tt, (tt, tt))) (begun-length mask ys n enough, (tt, (tt, tt)))) $ says ! refl $
-      by ! (closing W T.the-row κ q b o γ ys (begun n mask ys) (begun-length mask ys n enough) room (usize ∷ u16 ∷ []) (uint-makes 𝓤 H A W w64, (uint-makes 𝓤 H A W w16, tt)) (a .1) (at .1) ((refl, n-fits), ((refl, mask-fits), tt)) Nothing (nothing-makes 𝓤 H A W) tt _ refl)
+      qed W (Had W T.the-row κ q b o γ (firstRecords n mask ys)) ∵ suffices ! _ (ends-at 𝓤 H A f.ended stayed (f.clauses 𝓤 H A mem run) W (((κ, tt), (q, tt), tt, a, at), tt) vunit tt (firstRecords n mask ys, (tt, (tt, tt))) (begun-length mask ys n enough, (tt, (tt, tt)))) $ says ! refl $
+      by ! (closing W T.the-row κ q b o γ ys (firstRecords n mask ys) (begun-length mask ys n enough) room (usize ∷ u16 ∷ []) (uint-makes 𝓤 H A W w64, (uint-makes 𝓤 H A W w16, tt)) (a .1) (at .1) ((refl, n-fits), ((refl, mask-fits), tt)) Nothing (nothing-makes 𝓤 H A W) tt _ refl)
 
   abbrev to-fresh : ℕ → Fresh 𝓤 H A mem run .Ghost
   to-fresh i = ((tt, tt, tt, (mask, (i, tt)), (vint w16 mask ∷ [], (vint w64 i ∷ [], tt))), tt)
 
   -- the whole context of the loop at turn i: the elements, the open borrow, and the locals, at the blocks ls. t is what the test's local holds
   abbrev Ctx : List ℕ → Option Val → ℕ → List (Item 𝓤)
-  Ctx ls t i = ‵ (row T.the-row fullShare (begun i mask ys) b o) ∷ ‵ (fobor κ q (Held T.the-row (length ys) b o γ)) ∷ ‵ (fobs γ (codedHoleys T.the-row .code (heres T.the-row ys))) ∷ ‵ (fauth γ (codedHoleys T.the-row .code (heres T.the-row ys)))
+  Ctx ls t i = ‵ (row T.the-row fullShare (firstRecords i mask ys) b o) ∷ ‵ (fobor κ q (Held T.the-row (length ys) b o γ)) ∷ ‵ (fobs γ (codedHoleys T.the-row .code (heres T.the-row ys))) ∷ ‵ (fauth γ (codedHoleys T.the-row .code (heres T.the-row ys)))
       ∷ locals 𝓤 (code.function .locals) ls (none ∷ some (sliceVal (b, o) (length ys)) ∷ some (vint w64 n) ∷ some (vint w16 mask) ∷ some (vint w64 i) ∷ t ∷ none ∷ none ∷ none ∷ []) []
 
   module _ (𝓣 : Tables 𝓤 H) (known : Triple 𝓤 (𝓣 .C #fresh) (Fresh 𝓤 H A mem run)) where
@@ -113,16 +113,16 @@ module _ {M : Type 1} (𝓤 : URA M) (H : Heap 𝓤) (A : Atoms 𝓤) (W : Given
         T.the-row (ensured 𝓤 H A fresh.ended (fresh.clauses 𝓤 H A mem run) tt (mask, (i, tt)) tt) (λ r. r ≡ firstRecord mask i) (λ w. id⊢ 𝓤 _) (fresh-of 𝓤 H A mem run mask i) (and-then ! (var ! 5 refl) (and-then ! (var ! 5 refl) (no-more !))) (λ w r e is.
         let typed = LL.lawful T.the-type T′.the-laws 𝓤 H A W .typed r (w ∷ []) is .0 in
         let within : i < length ys = omega (arith, l, enough) in
-        let inside : i < length (begun i mask ys) = omega (arith, within, begun-length mask ys i (omega (arith, within))) in
+        let inside : i < length (firstRecords i mask ys) = omega (arith, within, begun-length mask ys i (omega (arith, within))) in
         -- [what the new record owns; the elements; the open borrow; obs; auth; the locals]
         lands ! 5 refl typed $ sets ! 5 (bin ! (var ! 5 refl) (lit ! tt) (record { fits = fits-place l enough (room .1) })) refl (tt, record { fits = fits-place l enough (room .1) }) $ aims ! 5 60 i refl refl refl refl refl tt $
-        move ! (1 ∷ []) $ elem-out ! T.the-row (Is T.the-row) (shows 𝓤 H A T.the-row) (λ m. nodeVal m ∷ []) node-tells fullShare (begun i mask ys) i wentDown b o inside (λ _.
+        move ! (1 ∷ []) $ elem-out ! T.the-row (Is T.the-row) (shows 𝓤 H A T.the-row) (λ m. nodeVal m ∷ []) node-tells fullShare (firstRecords i mask ys) i wentDown b o inside (λ _.
         -- [nodes[i]; what it owns; the others; what the new record owns; the open borrow; obs; auth; the locals]
         stores ! 7 (of-opd ! (var ! 7 refl)) refl (store-raw ! 0 refl typed) $ clears ! 7 5 refl $ clears ! 7 6 refl $ clears ! 7 7 refl $ clears ! 7 8 refl $
-        move ! (0 ∷ 3 ∷ 2 ∷ []) $ elem-put ! T.the-row fullShare (begun i mask ys) i r (w ∷ []) b o inside $ move ! (1 ∷ []) $ drop ! $
-        rewrite ! 0 (λ (z : List Node). ‵ (row T.the-row fullShare z b o)) (ap (λ (m : Node). set (begun i mask ys) i m) e ∙ begun-more mask ys i within) refl $ bumps ! 4 refl tt (omega (arith, l, n-fits)) $ done !)))
+        move ! (0 ∷ 3 ∷ 2 ∷ []) $ elem-put ! T.the-row fullShare (firstRecords i mask ys) i r (w ∷ []) b o inside $ move ! (1 ∷ []) $ drop ! $
+        rewrite ! 0 (λ (z : List Node). ‵ (row T.the-row fullShare z b o)) (ap (λ (m : Node). set (firstRecords i mask ys) i m) e ∙ begun-more mask ys i within) refl $ bumps ! 4 refl tt (omega (arith, l, n-fits)) $ done !)))
         -- the loop is left
-        (sets ! 4 (of-opd ! (unit-lit !)) refl (tt, tt) $ closes-slice ! tt T.the-row ys (begun n mask ys) (begun-length mask ys n enough) b o $
+        (sets ! 4 (of-opd ! (unit-lit !)) refl (tt, tt) $ closes-slice ! tt T.the-row ys (firstRecords n mask ys) (begun-length mask ys n enough) b o $
         ends ! 3 refl refl $ by ! exits))))))))))
 
 module _ {M : Type 1} (𝓤 : URA M) (H : Heap 𝓤) (A : Atoms 𝓤) (W : Given 𝓤 H A) (mem : Memory → SProp 𝓤) (run : Routine → Fun 𝓤) (𝓣 : Tables 𝓤 H) (known : Triple 𝓤 (𝓣 .C #fresh) (Fresh 𝓤 H A mem run)) where

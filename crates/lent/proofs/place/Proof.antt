@@ -2,7 +2,7 @@ use Prim.Native.Nat.{ℕ}
 use mathlib.Core.Path.{sym, ap, _∙_}
 use mathlib.Core.Option.{Option}
 use Rattle.steps.specs.Actor.{actor, is-node, is-nobody}
-use Rattle.lent.specs.InTurn.{placeOf}
+use Rattle.lent.specs.InTurn.{indexOf}
 use borrow.Author.Needs.{needs}
 use Rattle.lent.proofs.place.Statement.{statement}
 use Rattle.lent.proofs.place.Tie as tie
@@ -29,11 +29,11 @@ enum-told c = search needs
 
 -- src/lib.rt:30:1
 returns : tie.Need-returns
-returns c = c .index .ensures ∙ sym (ap (λ (o : Option ℕ). placeOf o (c .before .before .before .before .before .args .len)) (is-node (actor (c .before .before .before .before .before .args .step)) _ (sym (c .before .before .before .before .actor-of .ensures) ∙ c .before .before .actor .given .1)))
+returns c = c .index .ensures ∙ sym (ap (λ (o : Option ℕ). indexOf o (c .before .before .before .before .before .args .len)) (is-node (actor (c .before .before .before .before .before .args .step)) _ (sym (c .before .before .before .before .actor-of .ensures) ∙ c .before .before .actor .given .1)))
 
 -- src/lib.rt:30:1
 returns-2 : tie.Need-returns-2
-returns-2 c = sym (ap (λ (o : Option ℕ). placeOf o (c .before .before .before .args .len)) (is-nobody (actor (c .before .before .before .args .step)) (sym (c .before .before .actor-of .ensures) ∙ c .enum-told .given .1)))
+returns-2 c = sym (ap (λ (o : Option ℕ). indexOf o (c .before .before .before .args .len)) (is-nobody (actor (c .before .before .before .args .step)) (sym (c .before .before .actor-of .ensures) ∙ c .enum-told .given .1)))
 
 pub place-spec : {M : Type 1} → statement M
 place-spec =

@@ -43,9 +43,9 @@ use Rattle.steps.specs.declared.Step.{Step}
 use Rattle.site.specs.declared.Site.{Site}
 use Rattle.site.specs.declared.Answer.{Answer}
 use Rattle.lent.specs.declared.Told.{Told}
-use Rattle.lent.specs.Lent.{begun}
+use Rattle.lent.specs.Lent.{firstRecords}
 use Rattle.steps.specs.Actor.{actor}
-use Rattle.lent.specs.InTurn.{placeOf, beginsOf, compromisedOf}
+use Rattle.lent.specs.InTurn.{indexOf, beginsOf, compromisedOf}
 use Rattle.lent.specs.TurnLaws.{Acted, Said, asked, all-said}
 use Rattle.lent.proofs.Walk.{var, fvar, sets, lands-told, ends}
 use Rattle.lent.proofs.Shut.{headOf, opened, by-names, Of}
@@ -99,8 +99,8 @@ module _ {M : Type 1} (𝓤 : URA M) (H : Heap 𝓤) (A : Atoms 𝓤) (mem : Mem
   abbrev Place : Contract 𝓤
   Place = tripleOf 𝓤 H A place.signature (place.spec 𝓤 H A mem run)
 
-  place-of : (x : Step) (len : ℕ) (r : ℕ) → ent 𝓤 (ensured 𝓤 H A place.ended (place.clauses 𝓤 H A mem run) tt (x, (len, tt)) tt r) (fact 𝓤 (r ≡ placeOf (actor x) len))
-  place-of x len r = exE 𝓤 _ (λ ws. snd∗ 𝓤 (sem 𝓤 H A (lasts place.ended tt (x, (len, tt)) ws)) (fact 𝓤 (r ≡ placeOf (actor x) len)))
+  place-of : (x : Step) (len : ℕ) (r : ℕ) → ent 𝓤 (ensured 𝓤 H A place.ended (place.clauses 𝓤 H A mem run) tt (x, (len, tt)) tt r) (fact 𝓤 (r ≡ indexOf (actor x) len))
+  place-of x len r = exE 𝓤 _ (λ ws. snd∗ 𝓤 (sem 𝓤 H A (lasts place.ended tt (x, (len, tt)) ws)) (fact 𝓤 (r ≡ indexOf (actor x) len)))
 
   abbrev Begins : Contract 𝓤
   Begins = tripleOf 𝓤 H A begins.signature (begins.spec 𝓤 H A mem run)
@@ -177,7 +177,7 @@ module _ {M : Type 1} (𝓤 : URA M) (H : Heap 𝓤) (A : Atoms 𝓤) (W : Given
         -- [the locals; obs; the borrow; the token]
         sets ! 0 (of-opd ! (fvar ! 0 refl refl refl)) refl (tt, record { fits = room .0 }) $
         calls-by ! fm (Place 𝓤 H A mem run) known-place to-place (asks W (E.the-row ∷ usize ∷ []) (LE.makes E.the-type E′.the-plain 𝓤 H A, (uint-makes 𝓤 H A W w64, tt)) (x, (length ys, tt)) _ (x-is, ((refl, room .0), tt)))
-        usize (ensured 𝓤 H A place.ended (place.clauses 𝓤 H A mem run) tt (x, (length ys, tt)) tt) (λ i. i ≡ placeOf (actor x) (length ys)) (λ w. id⊢ 𝓤 _) (place-of 𝓤 H A mem run x (length ys)) (and-then ! (var ! 1 refl) (and-then ! (var ! 1 refl) (no-more !))) (λ wi i ei i-is. drop ! $
+        usize (ensured 𝓤 H A place.ended (place.clauses 𝓤 H A mem run) tt (x, (length ys, tt)) tt) (λ i. i ≡ indexOf (actor x) (length ys)) (λ w. id⊢ 𝓤 _) (place-of 𝓤 H A mem run x (length ys)) (and-then ! (var ! 1 refl) (and-then ! (var ! 1 refl) (no-more !))) (λ wi i ei i-is. drop ! $
         lands-told ! 0 refl (uint-lawful 𝓤 H A W w64 .typed i _ i-is .0) (i-is .0) $
         sets ! 0 (addr ! (from ! (fld ! refl (hop ! (look-in ! 22 (sub ! 0 refl (whole !))) (stop !))))) refl (tt, tt) $
         sets ! 0 (agg ! (and-then ! (var ! 0 refl) (and-then ! (fvar ! 0 refl refl refl) (no-more !)))) refl (tt, (tt, (record { fits = room .0 }, tt))) $
@@ -196,7 +196,7 @@ module _ {M : Type 1} (𝓤 : URA M) (H : Heap 𝓤) (A : Atoms 𝓤) (W : Given
         sets ! 3 (addr ! (from ! (fld ! refl (hop ! (look-in ! 25 (sub ! 0 refl (whole !))) (stop !))))) refl (tt, tt) $
         sets ! 3 (agg ! (and-then ! (var ! 3 refl) (and-then ! (fvar ! 3 refl refl refl) (no-more !)))) refl (tt, (tt, (record { fits = room .0 }, tt))) $
         calls-slice ! fm (Fill 𝓤 H A mem run) known-fill T.the-row b o zs (length ys) l (subst (Room T.the-row) (sym l) room) (to-fill zs n c) (goes-fill zs n c (n-is .1) (c-is .1) (asked site ys x i n (t .answer) (t .site) zs ei acted en)) Nothing (List Node × (Unit {0} × (Unit {0} × Unit {0}))) (λ ws. ws .0) (fsep ftrue (fsep ftrue ftrue))
-        (λ _ us. us ≡ begun n c zs) (λ α γ₁ w. id⊢ 𝓤 _) (λ α γ₁. and-then ! (var ! 5 refl) (and-then ! (var ! 5 refl) (and-then ! (var ! 5 refl) (no-more !)))) (λ wu u us eu l₂ u-is.
+        (λ _ us. us ≡ firstRecords n c zs) (λ α γ₁ w. id⊢ 𝓤 _) (λ α γ₁. and-then ! (var ! 5 refl) (and-then ! (var ! 5 refl) (and-then ! (var ! 5 refl) (no-more !)))) (λ wu u us eu l₂ u-is.
         lands-told ! 3 refl (nothing-lawful 𝓤 H A W .typed u _ u-is .0) u-is $
         sets ! 3 (of-opd ! (var ! 3 refl)) refl (of-told t (toldVal (p .av) (p .sv)) (p .whole)) $ ends ! 3 refl refl $
         by ! (exits t (toldVal (p .av) (p .sv)) us (p .whole) (l₂ ∙ l) (all-said site ys x i n (t .answer) (t .site) zs ei acted en c us ec eu)))))))))))))))))))))

@@ -2,7 +2,7 @@ use Prim.Native.Nat.{ℕ, _+_, _/_, _^_}
 use mathlib.Core.Path.{ap, sym, _∙_}
 use native.Mathlib.Nat.{div-div-eq-div-mul}
 use native.Mathlib.Omega.{arith}
-use Rattle.text.specs.Decimal.{places, places-le, places-8, places-16}
+use Rattle.text.specs.Decimal.{digitCount, places-le, places-8, places-16}
 use borrow.Author.Needs.{needs}
 use Rattle.text.proofs.places_of.Statement.{statement}
 use Rattle.text.proofs.places_of.Tie as tie
@@ -44,7 +44,7 @@ add-result-2 c = omega (arith, c .few-places3 .ensures, places-le 20 (c .before 
 returns-3 : tie.Need-returns-3
 returns-3 c =
     let a = c .before .before .before .args in
-    ap (λ (k : ℕ). k + 16) (c .few-places3 .ensures ∙ ap places (div-div-eq-div-mul (a .n) (10 ^ 8) (10 ^ 8))) ∙ sym (places-16 (a .n) (omega arith) (omega arith))
+    ap (λ (k : ℕ). k + 16) (c .few-places3 .ensures ∙ ap digitCount (div-div-eq-div-mul (a .n) (10 ^ 8) (10 ^ 8))) ∙ sym (places-16 (a .n) (omega arith) (omega arith))
 
 pub places-of-spec : {M : Type 1} → statement M
 places-of-spec =
