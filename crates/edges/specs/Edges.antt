@@ -1,9 +1,9 @@
 -- "Both sides of each edge": P1 to P10, by a single statement over one list.
-use Prim.Native.Nat.{ℕ, _^_}
+use Prim.Native.Nat.{ℕ}
 use mathlib.Core.Path.{_≡_, refl}
 use mathlib.Core.Bool.{Bool, true, false, not, _&&_}
 use mathlib.Core.List.{List, [], _∷_}
-use lib.Dec.{eqb, leb}
+use lib.Dec.{eqb}
 use Rattle.refusals.specs.Tests.{refusal, passed}
 use Rattle.time.specs.declared.Micros.{Micros}
 use Rattle.time.specs.declared.Dts.{Dts}
@@ -13,11 +13,9 @@ use Rattle.time.specs.Newer.{newer, ahead}
 use Rattle.senders.specs.Sets.{count}
 use Rattle.senders.specs.Masks.{isIn, size, enough, joined, within, together}
 use Rattle.tables.specs.Tables.{table}
-use Rattle.store.specs.declared.Store.{Store}
 use Rattle.store.specs.Store.{empty, put, hasPlace, sendersOf, storeWithin}
 use Rattle.pairs.specs.declared.Pair.{Pair}
 use Rattle.pairs.specs.Pair.{pair}
-use Rattle.node.specs.declared.Node.{Node}
 use Rattle.node.specs.State.{State, Done, Attempt, Wait, state}
 use Rattle.node.specs.Events.{wentDown}
 use Rattle.breaker.specs.Breaker.{started, changed, remembered, changesSound, breakerSound}

@@ -7,7 +7,7 @@ use mathlib.Core.Option.{Option, none, some}
 use native.Mathlib.Nat.{not-suc-le-zero, le-of-suc-le-suc}
 use native.Mathlib.Omega.{arith}
 use lib.Dec.{eqb, leb}
-use lib.ListN.{length, getD, set, drop}
+use lib.ListN.{length, set, drop}
 use borrow.Author.Tests.{ltb-true, leb-true, eqb-true}
 use Rattle.refusals.specs.Tests.{Test, refusal, passed, done-passed, each-passed}
 use Rattle.tables.specs.Tables.{table}

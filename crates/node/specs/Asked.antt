@@ -1,11 +1,9 @@
 -- What is asked of a node before an event reaches it.
 use Prim.Native.Nat.{ℕ}
-use mathlib.Core.Bool.{Bool, true, false, not, _&&_, cond}
-use Rattle.time.specs.declared.Dts.{Dts}
+use mathlib.Core.Bool.{Bool, true, false, _&&_}
 use Rattle.time.specs.Newer.{newer}
 use Rattle.time.specs.Limits.{stampSound}
 use Rattle.store.specs.Store.{storeWithin}
-use Rattle.pairs.specs.declared.Pair.{Pair}
 use Rattle.pairs.specs.declared.Known.{Known}
 use Rattle.pairs.specs.declared.Known.the-variants.{Yes, No}
 use Rattle.node.specs.declared.Last.{Last}

@@ -1,17 +1,14 @@
 -- The combining rule, and the end of an event.
 use Prim.Native.Nat.{ℕ}
-use mathlib.Core.Bool.{Bool, true, false, cond}
-use Rattle.time.specs.declared.Dts.{Dts}
+use mathlib.Core.Bool.{cond}
 use Rattle.store.specs.declared.Store.{Store}
 use Rattle.store.specs.declared.Earliest.{Earliest}
 use Rattle.store.specs.declared.Earliest.the-variants.{Stamp, Nothing}
 use Rattle.store.specs.Store.{put}
 use Rattle.store.specs.Earliest.{earliest}
-use Rattle.pairs.specs.declared.Pair.{Pair}
 use Rattle.pairs.specs.declared.Known.{Known}
 use Rattle.pairs.specs.declared.Known.the-variants.{Yes, No}
-use Rattle.node.specs.declared.Learned.{Learned}
-use Rattle.node.specs.declared.Resend.the-variants.{Armed, Off}
+use Rattle.node.specs.declared.Resend.the-variants.{Armed}
 use Rattle.node.specs.declared.Record.{Record}
 use Rattle.node.specs.declared.Phase.{Phase}
 use Rattle.node.specs.declared.Phase.the-variants.{Down, Starting, Running}

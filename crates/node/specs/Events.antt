@@ -1,6 +1,6 @@
 -- What each event makes of a node, before the combining rule. An event that the node's phase does not take leaves it as it was.
 use Prim.Native.Nat.{ℕ}
-use mathlib.Core.Bool.{Bool, true, false, not, _&&_, cond}
+use mathlib.Core.Bool.{not, _&&_, cond}
 use lib.Dec.{leb}
 use Rattle.time.specs.declared.Dts.{Dts}
 use Rattle.time.specs.Fresh.{next}
@@ -9,7 +9,6 @@ use Rattle.store.specs.Store.{empty, put, movedTo}
 use Rattle.pairs.specs.declared.Pair.{Pair}
 use Rattle.pairs.specs.declared.Known.{Known}
 use Rattle.pairs.specs.declared.Known.the-variants.{Yes, No}
-use Rattle.node.specs.declared.Last.{Last}
 use Rattle.node.specs.declared.Last.the-variants.{Number, Unknown}
 use Rattle.node.specs.declared.Learned.{Learned}
 use Rattle.node.specs.declared.Resend.{Resend}

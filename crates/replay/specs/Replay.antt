@@ -19,7 +19,7 @@ use Rattle.run.specs.declared.Next.the-variants.{Halt, Fault, Front, Take}
 use Rattle.run.specs.Turns.{applied, stepLine, overAfter, malformedLine, versioned, opening, reading, nextTurn, doing}
 use Rattle.run.specs.Blocks.{Advance, onward, nextIn, advanced, ranOf, Block}
 use Rattle.sequences.specs.History.{Entry}
-use Rattle.sequences.specs.Moments.{Moment, entry, afterStep, Reached, from, then}
+use Rattle.sequences.specs.Moments.{Moment, entry, afterStep, Reached, then}
 
 -- the site and the table of a run
 abbrev pub momentOf : Run → Moment

@@ -1,6 +1,6 @@
 -- What a bit of a mask is after an operation on it.
 use Prim.Native.Nat.{ℕ, zero, suc, _+_, _*_, _/_, _%_, _^_, max, _-_, _≤_, _<_}
-use mathlib.Core.Path.{_≡_, refl, sym, ap, ap₂, _∙_}
+use mathlib.Core.Path.{_≡_, refl, ap, _∙_}
 use mathlib.Core.Bool.{Bool, true, false}
 use native.Mathlib.Nat.{div-self, div-eq-of-lt, mod-lt, mod-eq-of-lt, one-mul, pow-suc, mul-mod-left}
 use native.Mathlib.Omega.{arith}

@@ -1,5 +1,5 @@
 -- Laws of masks as sets. Layers above reason by these and never see a bit.
-use Prim.Native.Nat.{ℕ, zero, suc, _+_, _*_, _/_, _%_, _^_, max, _≤_, _<_}
+use Prim.Native.Nat.{ℕ, zero, suc, _+_, _/_, _%_, _^_, max, _≤_, _<_}
 use mathlib.Core.Path.{_≡_, refl, sym, ap, ap₂, _∙_}
 use mathlib.Core.Bool.{Bool, true, false, not, _&&_, _||_, cond}
 use native.Mathlib.Nat.{not-suc-le-zero, le-of-suc-le-suc, zero-add, zero-div, div-one, mod-lt, div-eq-of-lt, lt-of-lt-of-le, zero-max}
@@ -8,9 +8,9 @@ use native.Mathlib.Omega.{arith}
 use lib.Arith.{lt-one}
 use lib.Bits.{bitOr, bitXor, differ, or-lt}
 use lib.Count.{ones, onesIn, ones-step}
-use lib.Dec.{eqb, leb, ltb, lit<}
+use lib.Dec.{eqb, ltb, lit<}
 use lib.Pow.{pow-lt, pow-mono, shr-lt, shr-shr}
-use borrow.Author.Tests.{eq-eqb, eqb-true, eqb-false, ne-eqb, lt-ltb, le-ltb, ltb-true, ltb-false}
+use borrow.Author.Tests.{eq-eqb, eqb-true, eqb-false, ne-eqb, lt-ltb, ltb-true}
 use Rattle.senders.specs.Sets.{count, tally, both, count-ext, count-low, count-joined, count-above, outside}
 use Rattle.senders.specs.Masks.{room, isIn, size, joined, without, together}
 use Rattle.senders.specs.Bits.{bit, bit-lt, bit-or, bit-xor, own-bit, other-bit}

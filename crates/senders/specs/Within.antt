@@ -1,5 +1,5 @@
 -- Sets of senders below n.
-use Prim.Native.Nat.{ℕ, _+_, _*_, _/_, _%_, _^_, _≤_, _<_}
+use Prim.Native.Nat.{ℕ, _/_, _%_, _^_, _≤_, _<_}
 use mathlib.Core.Path.{_≡_, refl, sym, ap, _∙_}
 use mathlib.Core.Bool.{Bool, true, false, _&&_, cond, false≢true}
 use native.Mathlib.Nat.{div-eq-of-lt, lt-of-lt-of-le, le-trans, one-mul, le-div-iff-mul-le}

@@ -4,10 +4,10 @@
 -- `accepted h` are the steps accepted since the last accepted Start, `lastStart h` is what that Start gave.
 use Prim.Native.Nat.{ℕ, _+_, _≤_, _<_}
 use mathlib.Core.Path.{_≡_}
-use mathlib.Core.Bool.{Bool, true, false, _&&_}
+use mathlib.Core.Bool.{true, false, _&&_}
 use mathlib.Core.List.{List, [], _∷_}
 use mathlib.Core.Logic.{_⊎_}
-use mathlib.Core.Option.{Option, some}
+use mathlib.Core.Option.{some}
 use Rattle.time.specs.declared.Dts.{Dts}
 use Rattle.senders.specs.Sets.{count}
 use Rattle.senders.specs.Masks.{isIn, size}

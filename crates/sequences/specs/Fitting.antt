@@ -1,12 +1,11 @@
 -- How the record of a correct node fits what the history says of it, and that each event keeps it so.
-use Prim.Native.Nat.{ℕ, _+_, _-_, _^_, _≤_, _<_}
+use Prim.Native.Nat.{ℕ, _+_, _-_, _≤_, _<_}
 use mathlib.Core.Path.{_≡_, refl, sym, ap, subst, _∙_}
-use mathlib.Core.Bool.{Bool, true, false, not, _&&_, _||_, cond, false≢true, true≢false, and-eq-true-iff}
+use mathlib.Core.Bool.{Bool, true, false, _&&_, _||_, cond, false≢true, and-eq-true-iff}
 use mathlib.Core.List.{List, [], _∷_, _++_}
-use mathlib.Core.Option.{Option, none, some}
+use mathlib.Core.Option.{some}
 use native.Mathlib.Omega.{arith}
-use lib.Dec.{eqb, leb, ltb}
-use borrow.Author.Tests.{le-leb}
+use lib.Dec.{eqb}
 use Rattle.time.specs.declared.Dts.{Dts}
 use Rattle.time.specs.Fresh.{fresh, window, fresh-same, fresh-ahead}
 use Rattle.senders.specs.Masks.{room}
@@ -18,24 +17,22 @@ use Rattle.pairs.specs.declared.Pair.{Pair}
 use Rattle.pairs.specs.declared.Known.{Known}
 use Rattle.pairs.specs.declared.Known.the-variants.{Yes, No}
 use Rattle.pairs.specs.declared.Pairs.{Pairs}
-use Rattle.pairs.specs.declared.Pairs.the-variants.{Zero, One, Two}
+use Rattle.pairs.specs.declared.Pairs.the-variants.{Zero}
 use Rattle.pairs.specs.Pair.{pair, listed, has}
 use Rattle.node.specs.declared.Last.{Last}
-use Rattle.node.specs.declared.Last.the-variants.{Number}
 use Rattle.node.specs.declared.Learned.{Learned}
 use Rattle.node.specs.declared.Record.{Record}
 use Rattle.node.specs.declared.Phase.{Phase}
 use Rattle.node.specs.declared.Phase.the-variants.{Starting, Running, Down as NotUp}
 use Rattle.node.specs.declared.Acted.{Acted}
-use Rattle.node.specs.State.{attempts}
-use Rattle.node.specs.Combining.{putAll, combined, finishedRunning, finished}
+use Rattle.node.specs.Combining.{putAll, combined, finished}
 use Rattle.node.specs.CombiningLaws.{Quiet, combined-quiet, combined-r}
 use Rattle.node.specs.Events.{begun}
 use Rattle.node.specs.declared.Resend.the-variants.{Off}
 use Rattle.steps.specs.declared.Step.{Step}
 use Rattle.steps.specs.declared.Step.the-variants.{Deliver}
 use Rattle.site.specs.declared.Sent.{Sent}
-use Rattle.rows.specs.Named.{report, ack, query, named, among}
+use Rattle.rows.specs.Named.{report, ack, query, among}
 use Rattle.sequences.specs.History.{Accepted, stepKind, lastReport, clock, life, any, runs, brought, deliveries}
 use Rattle.sequences.specs.Holding.{Near, near-fresh, has-append, has-cond, held-all, clock-all, held-later}
 

@@ -1,18 +1,18 @@
 -- What has happened, told by the steps and their answers alone: no field of a site or of a record is looked at. Every list has the latest first.
 use Prim.Native.Nat.{ℕ}
-use mathlib.Core.Bool.{Bool, true, false, _&&_, _||_, cond}
+use mathlib.Core.Bool.{Bool, false, _&&_, _||_, cond}
 use mathlib.Core.List.{List, [], _∷_, _++_}
 use mathlib.Core.Option.{Option, none, some}
 use lib.Dec.{eqb}
 use Rattle.time.specs.declared.Dts.{Dts}
 use Rattle.time.specs.Fresh.{fresh}
 use Rattle.pairs.specs.declared.Pair.{Pair}
-use Rattle.pairs.specs.Pair.{pair, listed, has}
+use Rattle.pairs.specs.Pair.{pair, listed}
 use Rattle.steps.specs.declared.Step.{Step}
 use Rattle.site.specs.declared.Sent.{Sent}
 use Rattle.site.specs.declared.Answer.{Answer}
 use Rattle.site.specs.declared.Answer.the-variants.{Done, Refused}
-use Rattle.rows.specs.Named.{StepKind, report, ack, query, down, up, command, Beginning, named, isKind, among}
+use Rattle.rows.specs.Named.{StepKind, report, ack, query, down, up, Beginning, named, isKind, among}
 
 -- a step with its answer
 pub record Entry : Type 0 where

@@ -1,30 +1,22 @@
 -- What a node holds once its own shares are put, and what the combining rule leaves. These laws go by the store's view alone.
 use Prim.Native.Nat.{ℕ, _+_, _-_, _≤_, _<_}
-use mathlib.Core.Path.{_≡_, refl, sym, ap, _∙_}
-use mathlib.Core.Bool.{Bool, true, false, not, _&&_, _||_, cond, false≢true, and-eq-true-iff}
+use mathlib.Core.Path.{_≡_, refl, ap, _∙_}
+use mathlib.Core.Bool.{Bool, true, false, _&&_, _||_, cond, false≢true, and-eq-true-iff}
 use mathlib.Core.Logic.{_⊎_, inl, inr}
 use mathlib.Core.List.{List, [], _∷_, _++_}
-use native.Mathlib.Omega.{arith}
-use lib.Dec.{eqb, leb, ltb}
-use borrow.Author.Tests.{eq-eqb, eqb-true, leb-true, le-leb, lt-ltb}
+use lib.Dec.{eqb}
 use Rattle.time.specs.declared.Dts.{Dts}
 use Rattle.time.specs.Fresh.{fresh, window, fresh-same, fresh-then}
 use Rattle.senders.specs.Masks.{room}
 use Rattle.store.specs.declared.Store.{Store}
-use Rattle.store.specs.declared.Earliest.{Earliest}
-use Rattle.store.specs.declared.Earliest.the-variants.{Stamp, Nothing}
-use Rattle.store.specs.Store.{hasPlace, put, movedTo}
+use Rattle.store.specs.Store.{put, movedTo}
 use Rattle.store.specs.Held.{held, hasRoomFor, held-moved, clock-put}
 use Rattle.store.specs.HeldLaws.{takes-near, held-taken, from-one, clock-at}
-use Rattle.store.specs.Earliest.{earliest}
 use Rattle.pairs.specs.declared.Pair.{Pair}
 use Rattle.pairs.specs.declared.Pairs.{Pairs}
 use Rattle.pairs.specs.declared.Pairs.the-variants.{Zero, One, Two}
-use Rattle.pairs.specs.declared.Known.the-variants.{No}
-use Rattle.pairs.specs.Pair.{pair, listed, has}
-use Rattle.node.specs.declared.Record.{Record}
-use Rattle.node.specs.State.{attempts}
-use Rattle.node.specs.Combining.{putAll, commanding, combined}
+use Rattle.pairs.specs.Pair.{listed, has}
+use Rattle.node.specs.Combining.{putAll}
 
 -- ---- lists of shares
 

@@ -1,11 +1,11 @@
 -- Each step at a node keeps its record fitting: one law for each of the eight.
-use Prim.Native.Nat.{ℕ, _+_, _-_, _^_, _≤_, _<_}
+use Prim.Native.Nat.{ℕ, _+_, _-_, _≤_, _<_}
 use mathlib.Core.Path.{_≡_, refl, sym, ap, ap₂, _∙_}
-use mathlib.Core.Bool.{Bool, true, false, not, _&&_, cond, false≢true, true≢false}
+use mathlib.Core.Bool.{Bool, true, false, not, _&&_, cond, false≢true}
 use mathlib.Core.List.{List, [], _∷_}
-use mathlib.Core.Option.{Option, none, some}
+use mathlib.Core.Option.{some}
 use native.Mathlib.Omega.{arith}
-use lib.Dec.{eqb, leb}
+use lib.Dec.{eqb}
 use borrow.Author.Tests.{le-leb}
 use Rattle.time.specs.declared.Dts.{Dts}
 use Rattle.time.specs.Fresh.{fresh, window, next, next-is}
@@ -14,11 +14,10 @@ use Rattle.store.specs.declared.Store.{Store}
 use Rattle.pairs.specs.declared.Pair.{Pair}
 use Rattle.pairs.specs.declared.Known.{Known}
 use Rattle.pairs.specs.declared.Known.the-variants.{Yes, No}
-use Rattle.pairs.specs.declared.Pairs.the-variants.{Zero, One, Two}
+use Rattle.pairs.specs.declared.Pairs.the-variants.{Zero, Two}
 use Rattle.pairs.specs.Pair.{pair, listed}
 use Rattle.node.specs.declared.Last.the-variants.{Number}
 use Rattle.node.specs.declared.Learned.{Learned}
-use Rattle.node.specs.declared.Record.{Record}
 use Rattle.node.specs.declared.Phase.{Phase}
 use Rattle.node.specs.declared.Phase.the-variants.{Starting, Running, Down as NotUp}
 use Rattle.node.specs.declared.Node.{Node}
@@ -26,12 +25,11 @@ use Rattle.node.specs.State.{attempts}
 use Rattle.node.specs.Asked.{isDown, isStarting, isRunning}
 use Rattle.node.specs.Combining.{putAll, finished}
 use Rattle.node.specs.Events.{reportShares, reportRunning, reported, delivered, shareTimedOut, resendTimedOut, laterThan, ackRunning, acked, queried, wentDown, wentUp}
-use Rattle.steps.specs.declared.Step.{Step}
 use Rattle.steps.specs.declared.Step.the-variants.{Report, Deliver, ShareTimeout, ResendTimeout, Ack, Query, Down, Up}
 use Rattle.site.specs.declared.Sent.{Sent}
 use Rattle.sequences.specs.History.{Accepted, runs}
 use Rattle.sequences.specs.Holding.{Near, has-cond}
-use Rattle.sequences.specs.Fitting.{latestClock, doneWith, isKnown, StartingFits, RunningFits, Fits, FitsAfter, Told, BringsOwn, shares-on, delivers-on, begins}
+use Rattle.sequences.specs.Fitting.{latestClock, doneWith, isKnown, StartingFits, Fits, FitsAfter, shares-on, delivers-on, begins}
 
 fresh-self : (t : Dts) → fresh t t ≡ true
 fresh-self t = simp (le-leb (t .0 - window) (t .0) (omega arith), le-leb (t .0) (t .0 + window) (omega arith))

@@ -1,10 +1,10 @@
 -- What a site and its table keep of the history, step by step.
-use Prim.Native.Nat.{ℕ, _+_, _≤_, _<_}
+use Prim.Native.Nat.{ℕ, _≤_, _<_}
 use mathlib.Core.Path.{_≡_, refl, sym, ap, ap₂, subst, _∙_}
-use mathlib.Core.Bool.{Bool, true, false, not, _&&_, _||_, cond, false≢true, and-eq-true-iff}
+use mathlib.Core.Bool.{Bool, true, false, cond, false≢true}
 use mathlib.Core.Logic.{_⊎_, inl, inr}
-use mathlib.Core.List.{List, [], _∷_}
-use mathlib.Core.Option.{Option, none, some}
+use mathlib.Core.List.{List, _∷_}
+use mathlib.Core.Option.{some}
 use lib.Dec.{eqb}
 use lib.ListN.{length, getD, set}
 use lib.Seq.{getD-set-same, getD-set-other}
@@ -22,7 +22,7 @@ use Rattle.node.specs.Events.{wentDown}
 use Rattle.steps.specs.declared.Step.{Step}
 use Rattle.site.specs.declared.Site.{Site}
 use Rattle.site.specs.declared.Sent.{Sent}
-use Rattle.site.specs.Site.{nodes, n}
+use Rattle.site.specs.Site.{nodes}
 use Rattle.site.specs.Effects.{withMade}
 use Rattle.rows.specs.Named.{Beginning, named, Of}
 use Rattle.sequences.specs.History.{Accepted, isAt, atNode, lastReport}

@@ -1,23 +1,22 @@
 -- What the tests of an accepted step say, as facts.
 use Prim.Native.Nat.{ℕ, _+_, _≤_, _<_}
-use mathlib.Core.Path.{_≡_, refl, sym, _∙_}
-use mathlib.Core.Bool.{Bool, true, false, not, _&&_, _||_, cond, and-eq-true-iff, false≢true}
-use mathlib.Core.List.{List, [], _∷_}
+use mathlib.Core.Path.{_≡_, refl}
+use mathlib.Core.Bool.{Bool, true, false, not, _&&_, _||_, and-eq-true-iff}
+use mathlib.Core.List.{List, _∷_}
 use native.Mathlib.Omega.{arith}
-use lib.Dec.{eqb, leb, ltb}
+use lib.Dec.{eqb, leb}
 use borrow.Author.Tests.{ltb-true, lt-ltb, leb-true, eqb-true, not-true}
 use Rattle.refusals.specs.Tests.{Test, passed}
 use Rattle.time.specs.declared.Dts.{Dts}
 use Rattle.senders.specs.Masks.{room, isIn, size, within}
 use Rattle.store.specs.Store.{storeWithin}
-use Rattle.pairs.specs.declared.Pair.{Pair}
-use Rattle.pairs.specs.declared.Known.the-variants.{Yes, No}
+use Rattle.pairs.specs.declared.Known.the-variants.{Yes}
 use Rattle.node.specs.declared.Node.{Node}
 use Rattle.breaker.specs.declared.Breaker.{Breaker}
 use Rattle.breaker.specs.Breaker.{breakerSound, changeAt, pairAt, mostChanges}
 use Rattle.site.specs.declared.Site.{Site}
 use Rattle.site.specs.Site.{n, g, mostF, mostK, firstG, lastG, numbersSound, setsSound, siteSound, actorSound}
-use Rattle.site.specs.Tests.{isNow, isNode, isStatus}
+use Rattle.site.specs.Tests.{isNow, isNode}
 use Rattle.sequences.specs.Fitting.{latestClock}
 
 pub left : (a b : Bool) → (a && b) ≡ true → a ≡ true

@@ -1,17 +1,15 @@
 -- The third demand holds.
-use Prim.Native.Nat.{ℕ, zero, suc, _+_, _-_, _^_, _≤_, _<_}
+use Prim.Native.Nat.{ℕ, _+_, _-_, _^_, _≤_, _<_}
 use mathlib.Core.Path.{_≡_, refl, sym, ap, ap₂, subst, _∙_}
-use mathlib.Core.Bool.{Bool, true, false, _&&_, _||_, cond, false≢true, true≢false}
+use mathlib.Core.Bool.{Bool, true, false, _&&_, false≢true}
 use mathlib.Core.List.{List, [], _∷_}
-use mathlib.Core.Option.{Option, some}
-use native.Mathlib.Nat.{le-refl}
+use mathlib.Core.Option.{Option}
 use native.Mathlib.Omega.{arith}
-use native.Mathlib.Decide.{le-ind}
 use lib.Dec.{leb, ltb}
 use lib.ListN.{length}
-use borrow.Author.Tests.{leb-true, ltb-true, ltb-false, lt-leb}
+use borrow.Author.Tests.{ltb-true, ltb-false, lt-leb}
 use Rattle.refusals.specs.Bools.{and-false}
-use Rattle.refusals.specs.Tests.{refusal, done-passed, each-passed}
+use Rattle.refusals.specs.Tests.{done-passed, each-passed}
 use Rattle.time.specs.declared.Dts.{Dts}
 use Rattle.time.specs.Fresh.{fresh, window}
 use Rattle.senders.specs.Sets.{count, count-more, count-none}
@@ -28,20 +26,17 @@ use Rattle.node.specs.declared.Phase.{Phase}
 use Rattle.node.specs.declared.Phase.the-variants.{Starting, Running, Down as NotUp}
 use Rattle.node.specs.State.{attempts}
 use Rattle.node.specs.Asked.{isRunning}
-use Rattle.steps.specs.declared.Step.{Step}
 use Rattle.steps.specs.declared.Step.the-variants.{Command}
-use Rattle.site.specs.declared.Site.{Site}
 use Rattle.site.specs.Site.{nodes}
 use Rattle.site.specs.Tests.{commandTests}
 use Rattle.site.specs.CommandLaws.{shared-by-one, stamp-above}
 use Rattle.site.specs.Steps.{testsOf}
-use Rattle.rows.specs.Named.{report, ack, query, Beginning}
-use Rattle.sequences.specs.History.{Entry, Accepted, accepted, atNode, clock, life, any, runs, deliveries, freshAtClock}
-use Rattle.sequences.specs.Moments.{Moment, Reached, Accepts, nodeAt, holds}
-use Rattle.sequences.specs.Demand.{Correct, Always, AtMostF, SharedByACorrectNode, StampsRise, RunsAsTold, HeldExactly, NoneLeft, OneSendersOwn}
-use Rattle.sequences.specs.Fitting.{latestClock, Fits, StartingFits, RunningFits}
-use Rattle.sequences.specs.Passing.{left, sound}
-use Rattle.sequences.specs.Keeps.{Keeps}
+use Rattle.rows.specs.Named.{report, ack, query}
+use Rattle.sequences.specs.History.{Accepted, accepted, atNode, clock, life, any, runs, deliveries, freshAtClock}
+use Rattle.sequences.specs.Moments.{nodeAt, holds}
+use Rattle.sequences.specs.Demand.{Always, AtMostF, SharedByACorrectNode, StampsRise, RunsAsTold, HeldExactly, NoneLeft, OneSendersOwn}
+use Rattle.sequences.specs.Fitting.{Fits, StartingFits, RunningFits}
+use Rattle.sequences.specs.Passing.{sound}
 use Rattle.sequences.specs.Started.{accepted-passed}
 use Rattle.sequences.specs.Reaching.{reached-keeps}
 use Rattle.sequences.specs.Rising.{each-so, reached-risen}

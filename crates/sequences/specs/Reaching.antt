@@ -9,21 +9,20 @@ use native.Mathlib.Nat.{not-suc-le-zero, le-of-suc-le-suc}
 use native.Mathlib.Omega.{arith}
 use lib.Dec.{leb}
 use lib.ListN.{length, getD, set, drop}
-use borrow.Author.Tests.{ltb-true, leb-true}
+use borrow.Author.Tests.{leb-true}
 use Rattle.refusals.specs.Tests.{refusal, done-passed, each-passed}
 use Rattle.tables.specs.Tables.{table}
-use Rattle.time.specs.declared.Dts.{Dts}
 use Rattle.time.specs.Fresh.{fresh, next}
-use Rattle.senders.specs.Masks.{size, room}
+use Rattle.senders.specs.Masks.{size}
 use Rattle.store.specs.Store.{movedTo}
-use Rattle.store.specs.Held.{held, held-empty, held-moved}
+use Rattle.store.specs.Held.{held-empty, held-moved}
 use Rattle.node.specs.declared.Node.{Node}
 use Rattle.pairs.specs.declared.Known.{Known}
 use Rattle.node.specs.Combining.{putAll, finished}
 use Rattle.node.specs.Events.{reported, delivered, shareTimedOut, resendTimedOut, acked, queried, wentDown, wentUp}
 use Rattle.steps.specs.declared.Step.{Step}
 use Rattle.steps.specs.declared.Step.the-variants.{Start, Tick, Report, Deliver, ShareTimeout, ResendTimeout, Command, Ack, Query, Down, Up}
-use Rattle.breaker.specs.Breaker.{changeAt, pairAt}
+use Rattle.breaker.specs.Breaker.{pairAt}
 use Rattle.site.specs.declared.Site.{Site}
 use Rattle.site.specs.declared.Out.{Out}
 use Rattle.site.specs.Site.{nodes, g}
@@ -35,7 +34,7 @@ use Rattle.steps.specs.Actor.{actor}
 use Rattle.lent.specs.Lent.{tableAfterAnswer}
 use Rattle.lent.specs.LentLaws.{by-tests}
 use Rattle.rows.specs.Named.{Beginning}
-use Rattle.sequences.specs.History.{Entry, Accepted, lastStart, accepted, atNode}
+use Rattle.sequences.specs.History.{Entry, lastStart, accepted, atNode}
 use Rattle.sequences.specs.Moments.{Moment, Reached, from, then}
 use Rattle.sequences.specs.Fitting.{doneWith, sentBy}
 use Rattle.sequences.specs.Keeping.{keeps-report, keeps-deliver, keeps-share-timeout, keeps-resend-timeout, keeps-ack, keeps-query, keeps-down, keeps-up, fits-first}

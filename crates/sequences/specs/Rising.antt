@@ -1,16 +1,15 @@
 -- Accepted stamps rise: no earlier change is above the breaker's stamp.
-use Prim.Native.Nat.{ℕ, _≤_, _<_}
+use Prim.Native.Nat.{ℕ, _≤_}
 use mathlib.Core.Path.{_≡_, refl, sym, ap, _∙_}
 use mathlib.Core.Bool.{Bool, true, false, cond, false≢true}
 use mathlib.Core.List.{List, [], _∷_}
 use mathlib.Core.Option.{Option, none, some}
 use native.Mathlib.Omega.{arith}
-use lib.Dec.{leb, ltb}
+use lib.Dec.{leb}
 use lib.ListN.{length}
 use borrow.Author.Tests.{leb-true}
 use Rattle.refusals.specs.Tests.{refusal, done-passed}
 use Rattle.time.specs.declared.Dts.{Dts}
-use Rattle.pairs.specs.declared.Pair.{Pair}
 use Rattle.pairs.specs.declared.Known.{Known}
 use Rattle.pairs.specs.declared.Known.the-variants.{Yes, No}
 use Rattle.node.specs.declared.Node.{Node}
@@ -27,7 +26,7 @@ use Rattle.lent.specs.Lent.{recordOf, outOf}
 use Rattle.steps.specs.Actor.{actor}
 use Rattle.lent.specs.LentLaws.{by-tests}
 use Rattle.rows.specs.Named.{StepKind, command, isKind, named, Of}
-use Rattle.sequences.specs.History.{Entry, Accepted, stepKind, accepted}
+use Rattle.sequences.specs.History.{Entry, Accepted, accepted}
 use Rattle.sequences.specs.Moments.{Moment, Reached, from, then}
 use Rattle.sequences.specs.Demand.{Each, Changed}
 

@@ -3,7 +3,7 @@ use Prim.Native.Nat.{ℕ, _<_}
 use mathlib.Core.Path.{_≡_, refl, sym, ap, subst, _∙_}
 use mathlib.Core.Bool.{Bool, true, false, _&&_, _||_, cond, false≢true}
 use mathlib.Core.Logic.{_⊎_, inl, inr}
-use mathlib.Core.List.{List, [], _∷_}
+use mathlib.Core.List.{List}
 use mathlib.Core.Option.{Option, none, some, Option·getD}
 use lib.Dec.{eqb, leb}
 use lib.ListN.{length, getD, set}
@@ -12,12 +12,9 @@ use borrow.Author.Tests.{eq-eqb, leb-true}
 use Rattle.refusals.specs.Tests.{refusal, done-passed, each-passed}
 use Rattle.time.specs.declared.Dts.{Dts}
 use Rattle.store.specs.declared.Store.{Store}
-use Rattle.store.specs.declared.Earliest.{Earliest}
-use Rattle.store.specs.declared.Earliest.the-variants.{Stamp, Nothing}
-use Rattle.store.specs.Earliest.{earliest}
 use Rattle.pairs.specs.declared.Pair.{Pair}
 use Rattle.pairs.specs.declared.Known.{Known}
-use Rattle.pairs.specs.declared.Known.the-variants.{Yes, No}
+use Rattle.pairs.specs.declared.Known.the-variants.{Yes}
 use Rattle.pairs.specs.declared.Pairs.{Pairs}
 use Rattle.pairs.specs.declared.Pairs.the-variants.{Zero, One, Two}
 use Rattle.pairs.specs.Pair.{listed, has}
@@ -29,11 +26,9 @@ use Rattle.node.specs.declared.Phase.{Phase}
 use Rattle.node.specs.declared.Phase.the-variants.{Starting, Running, Down as NotUp}
 use Rattle.node.specs.declared.Node.{Node}
 use Rattle.node.specs.declared.Acted.{Acted}
-use Rattle.node.specs.declared.combining.Combined.{Combined}
-use Rattle.node.specs.State.{attempts}
-use Rattle.node.specs.Combining.{putAll, commanding, combined, followed, finishedRunning, finished}
+use Rattle.node.specs.Combining.{combined, followed, finished}
 use Rattle.node.specs.CombiningLaws.{combined-b}
-use Rattle.node.specs.Events.{reported, reportRunning, delivered, shareTimedOut, again, resendTimedOut, later, ackRunning, acked, queried, wentDown, wentUp}
+use Rattle.node.specs.Events.{reported, reportRunning, delivered, shareTimedOut, again, resendTimedOut, ackRunning, acked, queried, wentDown, wentUp}
 use Rattle.steps.specs.declared.Step.{Step}
 use Rattle.steps.specs.declared.Step.the-variants.{Start, Tick, Report, Deliver, ShareTimeout, ResendTimeout, Command, Ack, Query, Down, Up}
 use Rattle.breaker.specs.Breaker.{changeAt, pairAt}

@@ -1,19 +1,17 @@
 -- Which shares a step makes: whoever shares (A, T) does so at its own clock T or T − 1, its relay's last accepted report being A.
-use Prim.Native.Nat.{ℕ, _+_, _≤_, _<_}
+use Prim.Native.Nat.{ℕ, _+_, _≤_}
 use mathlib.Core.Path.{_≡_, refl, sym, ap, _∙_}
 use mathlib.Core.Bool.{Bool, true, false, not, _&&_, _||_, cond, false≢true, and-eq-true-iff}
 use mathlib.Core.Logic.{_⊎_, inl, inr}
-use mathlib.Core.List.{List, [], _∷_}
+use mathlib.Core.List.{List}
 use mathlib.Core.Option.{some}
-use native.Mathlib.Omega.{arith}
 use lib.Dec.{eqb}
 use borrow.Author.Tests.{eqb-true}
 use Rattle.time.specs.declared.Dts.{Dts}
 use Rattle.time.specs.Fresh.{next}
 use Rattle.store.specs.declared.Store.{Store}
 use Rattle.pairs.specs.declared.Pair.{Pair}
-use Rattle.pairs.specs.declared.Pairs.{Pairs}
-use Rattle.pairs.specs.declared.Pairs.the-variants.{Zero, One, Two}
+use Rattle.pairs.specs.declared.Pairs.the-variants.{Zero, Two}
 use Rattle.pairs.specs.Pair.{pair, listed, has}
 use Rattle.node.specs.declared.Phase.{Phase}
 use Rattle.node.specs.declared.Phase.the-variants.{Starting, Running, Down as NotUp}

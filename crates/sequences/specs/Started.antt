@@ -1,9 +1,9 @@
 -- An accepted step has passed its tests; and from a site that is not started, every accepted change comes after an accepted Start.
 use Prim.Native.Nat.{ℕ}
 use mathlib.Core.Path.{_≡_, refl, sym, _∙_}
-use mathlib.Core.Bool.{Bool, true, false, false≢true}
-use mathlib.Core.List.{List, [], _∷_}
-use mathlib.Core.Option.{Option, some}
+use mathlib.Core.Bool.{true, false, false≢true}
+use mathlib.Core.List.{List, _∷_}
+use mathlib.Core.Option.{some}
 use lib.ListN.{length}
 use Rattle.refusals.specs.Tests.{refusal, done-passed, each-passed}
 use Rattle.time.specs.declared.Dts.{Dts}

@@ -1,15 +1,14 @@
 -- What each step does once its tests are passed: the site and the acting node's record afterwards, and what is sent.
 use Prim.Native.Nat.{ℕ}
 use mathlib.Core.Bool.{true, cond}
-use mathlib.Core.List.{List, [], _∷_, _++_, map}
+use mathlib.Core.List.{List, [], _++_, map}
 use Rattle.time.specs.declared.Dts.{Dts}
 use Rattle.time.specs.Fresh.{next}
-use Rattle.senders.specs.Masks.{isIn, joined, without}
+use Rattle.senders.specs.Masks.{isIn}
 use Rattle.store.specs.Store.{empty, movedTo}
 use Rattle.pairs.specs.declared.Pair.{Pair}
 use Rattle.pairs.specs.declared.Known.{Known}
 use Rattle.pairs.specs.declared.Known.the-variants.{Yes, No}
-use Rattle.pairs.specs.declared.Pairs.{Pairs}
 use Rattle.pairs.specs.declared.Pairs.the-variants.{Zero}
 use Rattle.pairs.specs.Pair.{listed, listedKnown}
 use Rattle.node.specs.declared.Node.{Node}
@@ -17,7 +16,7 @@ use Rattle.node.specs.declared.Acted.{Acted}
 use Rattle.node.specs.Combining.{putAll, finished}
 use Rattle.node.specs.Events.{acked, quiet, wentDown, wentUp}
 use Rattle.breaker.specs.declared.Breaker.{Breaker}
-use Rattle.breaker.specs.Breaker.{started, changed, changeAt}
+use Rattle.breaker.specs.Breaker.{started, changed}
 use Rattle.store.specs.declared.Store.{Store}
 use Rattle.site.specs.declared.Site.{Site}
 use Rattle.site.specs.declared.Sent.{Sent}

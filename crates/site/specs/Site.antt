@@ -1,7 +1,7 @@
 -- The site's numbers, and refusal 16.
 use Prim.Native.Nat.{ℕ, _+_, _*_}
 use mathlib.Core.Bool.{Bool, _&&_, _||_}
-use lib.Dec.{leb, ltb}
+use lib.Dec.{leb}
 use Rattle.time.specs.declared.Dts.{Dts}
 use Rattle.senders.specs.Masks.{size, within}
 use Rattle.store.specs.Store.{storeWithin}

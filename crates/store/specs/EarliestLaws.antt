@@ -1,27 +1,24 @@
 -- What `earliest` answers: a stamp is the earliest of those that qualify, and nothing means that none does.
 use Prim.Native.Nat.{ℕ, zero, suc, _+_, _-_, _^_, _≤_, _<_}
 use mathlib.Core.Path.{_≡_, refl, sym, ap, ap₂, _∙_}
-use mathlib.Core.Bool.{Bool, true, false, _&&_, cond, and-eq-true-iff, false≢true}
-use mathlib.Core.List.{List, [], _∷_}
+use mathlib.Core.Bool.{Bool, true, false, _&&_, cond, and-eq-true-iff}
 use native.Mathlib.Nat.{not-suc-le-zero}
 use native.Mathlib.Numerals.{add-one}
 use native.Mathlib.Omega.{arith}
-use lib.Dec.{eqb, leb, ltb}
-use lib.ListN.{drop, getD, length, drop-of-length-le}
+use lib.Dec.{leb, ltb}
+use lib.ListN.{drop, drop-of-length-le}
 use lib.Seq.{drop-cons}
-use borrow.Author.Tests.{ltb-true, leb-true, lt-ltb, le-ltb, le-leb, lt-leb, ltb-false, leb-false}
+use borrow.Author.Tests.{ltb-true, leb-true, lt-ltb, leb-false}
 use Rattle.time.specs.declared.Dts.{Dts}
-use Rattle.time.specs.Fresh.{fresh, window}
-use Rattle.senders.specs.Sets.{count, count-ext}
-use Rattle.senders.specs.Masks.{room, isIn, size}
-use Rattle.senders.specs.MaskLaws.{in-none}
+use Rattle.time.specs.Fresh.{window}
+use Rattle.senders.specs.Sets.{count}
+use Rattle.senders.specs.Masks.{isIn, size}
 use Rattle.tables.specs.Tables.{table, length-table, getD-table}
 use Rattle.store.specs.declared.Store.{Store}
-use Rattle.store.specs.declared.Earliest.{Earliest}
 use Rattle.store.specs.declared.Earliest.the-variants.{Stamp, Nothing}
-use Rattle.store.specs.Store.{actions, stamps, hasPlace, place, setAt, sendersOf}
+use Rattle.store.specs.Store.{stamps, hasPlace, place, setAt, sendersOf}
 use Rattle.store.specs.Places.{bounds}
-use Rattle.store.specs.Earliest.{dts, freshStamp, freshStamps, qualifies, firstOf, earliest}
+use Rattle.store.specs.Earliest.{dts, freshStamp, qualifies, firstOf, earliest}
 
 -- ---- a search of a list that a rule makes, from place i on
 

@@ -1,10 +1,10 @@
 -- What a store holds, and how that changes. A caller reasons by `held` and the laws here alone.
-use Prim.Native.Nat.{ℕ, _+_, _*_, _-_, _%_, max, _≤_, _<_}
+use Prim.Native.Nat.{ℕ, _+_, _-_, _%_, max, _≤_, _<_}
 use mathlib.Core.Path.{_≡_, refl, sym, ap, ap₂, _∙_}
-use mathlib.Core.Bool.{Bool, true, false, not, _&&_, _||_, cond, and-eq-true-iff}
+use mathlib.Core.Bool.{Bool, true, false, _&&_, _||_, cond, and-eq-true-iff}
 use native.Mathlib.Omega.{arith}
 use lib.Dec.{eqb, leb, ltb}
-use borrow.Author.Tests.{eq-eqb, ne-eqb, eqb-true, eqb-false, ltb-true, lt-ltb, le-ltb, leb-true, leb-false, le-leb, lt-leb}
+use borrow.Author.Tests.{eqb-true, lt-ltb, le-ltb, leb-true, leb-false, le-leb}
 use Rattle.time.specs.declared.Dts.{Dts}
 use Rattle.time.specs.Fresh.{fresh, window}
 use Rattle.senders.specs.Masks.{room, isIn, joined}

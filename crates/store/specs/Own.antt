@@ -1,6 +1,6 @@
 -- "Each sender has at most ten places and cannot take another's."
 use Prim.Native.Nat.{ℕ, _+_, _-_, _≤_, _<_}
-use mathlib.Core.Path.{_≡_, refl, sym, ap, _∙_}
+use mathlib.Core.Path.{_≡_, refl, ap, _∙_}
 use mathlib.Core.Bool.{Bool, true, false, _&&_, _||_}
 use native.Mathlib.Omega.{arith}
 use lib.Dec.{eqb}
@@ -9,7 +9,7 @@ use Rattle.time.specs.declared.Dts.{Dts}
 use Rattle.time.specs.Fresh.{window}
 use Rattle.senders.specs.Sets.{count, count-window}
 use Rattle.store.specs.declared.Store.{Store}
-use Rattle.store.specs.Store.{actions, stamps, places, put}
+use Rattle.store.specs.Store.{stamps, places, put}
 use Rattle.store.specs.Places.{bounds}
 use Rattle.store.specs.Held.{held, hasRoomFor, held-put, held-fresh}
 use Rattle.store.specs.Earliest.{dts}

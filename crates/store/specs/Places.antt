@@ -1,6 +1,6 @@
 -- Facts on places. They are for the store's own proofs, and nothing above cites them.
-use Prim.Native.Nat.{ℕ, _+_, _*_, _-_, _%_, _≤_, _<_}
-use mathlib.Core.Path.{_≡_, refl, sym, ap, ap₂, _∙_}
+use Prim.Native.Nat.{ℕ, _+_, _*_, _-_, _≤_, _<_}
+use mathlib.Core.Path.{_≡_, refl, sym, ap, ap₂}
 use mathlib.Core.Bool.{Bool, true, false, _&&_, cond, and-eq-true-iff}
 use mathlib.Core.List.{List, [], _∷_}
 use native.Mathlib.Omega.{arith}
@@ -9,12 +9,11 @@ use lib.ListN.{length, set}
 use borrow.Author.Tests.{eq-eqb, ne-eqb, eqb-true, eqb-false, ltb-true, leb-true}
 use Rattle.refusals.specs.Bools.{and-assoc, and-true}
 use Rattle.time.specs.declared.Dts.{Dts}
-use Rattle.time.specs.Fresh.{fresh, freshAt, window}
+use Rattle.time.specs.Fresh.{fresh, window}
 use Rattle.senders.specs.Masks.{joined, together, within}
 use Rattle.senders.specs.Within.{together-within}
-use Rattle.tables.specs.Tables.{table, set-table}
+use Rattle.tables.specs.Tables.{set-table}
 use Rattle.store.specs.declared.Store.{Store}
-use Rattle.store.specs.declared.Place.{Place}
 use Rattle.store.specs.declared.Place.the-variants.{At, Nowhere}
 use Rattle.store.specs.Store.{actions, stamps, places, hasPlace, place, placeOf, setAt, put, allWithin}
 

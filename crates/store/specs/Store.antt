@@ -1,6 +1,6 @@
 -- "Share store: for each action and each fresh stamp, the set of senders whose share has been delivered". Which place of the array is whose is
 -- said here and nowhere else: the layers above go by what is held (Held).
-use Prim.Native.Nat.{ℕ, _+_, _*_, _-_, _%_, _/_}
+use Prim.Native.Nat.{ℕ, _+_, _*_, _-_, _%_}
 use mathlib.Core.Bool.{Bool, true, _&&_, cond}
 use mathlib.Core.List.{List, [], _∷_}
 use lib.Dec.{eqb, leb, ltb}

@@ -1,6 +1,6 @@
 -- A list that a rule makes, what stands in it, and what a store to one of its places leaves. An array is described so, and not by the
 -- stores that filled it: its length is then part of what it is.
-use Prim.Native.Nat.{ℕ, zero, suc, _+_, _≤_, _<_}
+use Prim.Native.Nat.{ℕ, zero, suc, _+_, _<_}
 use mathlib.Core.Path.{_≡_, refl, sym, ap, _∙_}
 use mathlib.Core.List.{List, [], _∷_}
 use mathlib.Core.Bool.{Bool, true, false, cond}

@@ -1,5 +1,5 @@
 -- How long the parts of a line can be, and how messages are put one after another.
-use Prim.Native.Nat.{ℕ, suc, _+_, _≤_, _<_}
+use Prim.Native.Nat.{ℕ, suc, _+_, _≤_}
 use mathlib.Core.Path.{_≡_, refl, sym, ap, subst, subst₂, _∙_}
 use mathlib.Core.List.{List, [], _∷_, _++_, map, append-assoc, append-nil}
 use native.Mathlib.Nat.{le-trans}
@@ -21,7 +21,7 @@ use Rattle.site.specs.declared.Answer.the-variants.{Done, Refused}
 use Rattle.site.specs.Effects.{Message, Share, Command, Ack, numberOf, messagesOf}
 use Rattle.text.specs.Puts.{Puts, then, set-front}
 use Rattle.text.specs.Decimal.{decimal, length-decimal}
-use Rattle.text.specs.Line.{pairText, messageText, afterCommas, sentText, tailText, shownStatus, shownStamp, lineOf}
+use Rattle.text.specs.Line.{pairText, messageText, afterCommas, tailText, shownStatus, shownStamp, lineOf}
 use Rattle.text.specs.Lines.{longestLine, sentMessages, lineText, lineBytes, lineNext}
 
 -- nothing put

@@ -1,16 +1,15 @@
 -- "Of two accepted readings at most one interval apart, the stamps are equal or consecutive."
 use Prim.Native.Nat.{ℕ, _+_, _*_, _/_, _≤_, _<_}
-use mathlib.Core.Path.{_≡_, refl, sym, _∙_}
+use mathlib.Core.Path.{_≡_, refl}
 use mathlib.Core.Bool.{Bool, true, false, _&&_, false≢true}
 use mathlib.Core.Logic.{_⊎_, inl, inr}
 use native.Mathlib.Nat.{le-trans, mul-comm, mul-div-le, le-div-iff-mul-le, add-div-right}
 use native.Mathlib.Omega.{arith}
-use lib.Dec.{leb, ltb, lit<}
+use lib.Dec.{leb, ltb}
 use borrow.Author.Tests.{leb-true, ltb-true, ltb-false}
-use Rattle.refusals.specs.Tests.{Test, refusal, passed, done-passed}
+use Rattle.refusals.specs.Tests.{refusal, passed, done-passed}
 use Rattle.time.specs.declared.Micros.{Micros}
-use Rattle.time.specs.declared.Dts.{Dts}
-use Rattle.time.specs.Discretising.{shortestInterval, longestInterval, lastStamp, wholePart, discretisingTests, discretised}
+use Rattle.time.specs.Discretising.{shortestInterval, wholePart, discretisingTests, discretised}
 
 div-mono : (i a b : ℕ) → 0 < i → a ≤ b → a / i ≤ b / i
 div-mono i a b h l = le-div-iff-mul-le h .1 (le-trans low l)

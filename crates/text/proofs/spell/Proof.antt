@@ -1,7 +1,7 @@
 use Prim.Native.Nat.{_+_, _-_, _%_}
 use mathlib.Core.Path.{_∙_}
 use native.Mathlib.Omega.{arith}
-use lib.ListN.{length, length-set}
+use lib.ListN.{length-set}
 use borrow.Author.Needs.{needs}
 use Rattle.text.specs.Decimal.{Spelling, spelling-begins, spelling-two, spelling-last, spelling-ends, spelling-length}
 use Rattle.text.proofs.spell.Statement.{statement}

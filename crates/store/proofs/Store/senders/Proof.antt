@@ -1,6 +1,3 @@
-use lib.ListN.{getD}
-use Prim.Native.Nat.{ℕ}
-use mathlib.Core.Path.{ap}
 use mathlib.Core.Path.{sym, _∙_}
 use native.Mathlib.Omega.{arith}
 use Rattle.store.specs.Store.{sendersOf}

@@ -1,9 +1,8 @@
 use Rattle.text.specs.LineLaws.{length-lettered}
-use mathlib.Core.Path.{sym}
 use native.Mathlib.Omega.{arith}
 use Rattle.site.specs.Effects.{Command}
 use Rattle.text.specs.Puts.{then}
-use Rattle.text.specs.LineLaws.{puts-as, puts-nothing, pairs-zero, pairs-one, pairs-two, length-share, length-pair}
+use Rattle.text.specs.LineLaws.{puts-as, puts-nothing, pairs-zero, pairs-one, pairs-two}
 use borrow.Author.Needs.{needs}
 use Rattle.text.proofs.line.put_commands.Statement.{statement}
 use Rattle.text.proofs.line.put_commands.Tie as tie

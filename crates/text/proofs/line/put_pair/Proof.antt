@@ -1,4 +1,3 @@
-use native.Mathlib.Omega.{arith}
 use Rattle.text.specs.Puts.{then}
 use borrow.Author.Needs.{needs}
 use Rattle.text.proofs.line.put_pair.Statement.{statement}
