@@ -1,14 +1,14 @@
 -- Laws of the lent table: records that are made one by one, and what a step that is done has found in the table.
 use Prim.Native.Nat.{ℕ, zero, suc, _≤_, _<_}
 use mathlib.Core.Path.{_≡_, refl, ap, subst}
-use mathlib.Core.Bool.{Bool, true, false, _&&_, cond, and-eq-true-iff}
+use mathlib.Core.Bool.{Bool, true, false, _&&_, and-eq-true-iff}
 use mathlib.Core.List.{List, [], _∷_, _++_}
 use mathlib.Core.Option.{Option, none, some}
 use native.Mathlib.Nat.{not-suc-le-zero, le-of-suc-le-suc}
 use native.Mathlib.Omega.{arith}
-use lib.Dec.{eqb, leb}
+use lib.Dec.{leb}
 use lib.ListN.{length, set, drop}
-use borrow.Author.Tests.{ltb-true, leb-true, eqb-true}
+use borrow.Author.Tests.{ltb-true, leb-true}
 use Rattle.refusals.specs.Tests.{Test, refusal, passed, done-passed, each-passed}
 use Rattle.tables.specs.Tables.{table}
 use Rattle.node.specs.declared.Node.{Node}
@@ -17,11 +17,11 @@ use Rattle.steps.specs.declared.Step.the-variants.{Start, Tick, Report, Deliver
 use Rattle.site.specs.declared.Site.{Site}
 use Rattle.site.specs.declared.Answer.{Answer}
 use Rattle.site.specs.declared.Answer.the-variants.{Done, Refused}
-use Rattle.site.specs.declared.Out.{Out}
 use Rattle.site.specs.Site.{nodes, n, numbersSound, setsSound, siteSound, actorSound}
 use Rattle.site.specs.Tests.{isNode, startTests}
-use Rattle.site.specs.Effects.{refused, firstRecord, act, commanded}
-use Rattle.site.specs.Steps.{testsOf, effectOf, stepped}
+use Rattle.site.specs.Effects.{firstRecord}
+use Rattle.site.specs.Steps.{testsOf, effectOf}
+use Rattle.site.specs.StepLaws.{by-tests, isDone}
 use Rattle.breaker.specs.Breaker.{breakerSound}
 use Rattle.lent.specs.Lent.{recordOf, outOf, firstRecords}
 use Rattle.steps.specs.Actor.{actor}
@@ -55,36 +55,6 @@ module _ (compromised : ℕ) (records : List Node) where
 
   pub begun-length : (n : ℕ) → n ≤ length records → length (firstRecords n compromised records) ≡ length records
   begun-length n h = fronted-length n (firstRecord compromised) records h
-
--- ---- what is decided
-
--- what holds of the effect, if all tests are passed, and of each refusal, holds of the step
-pub by-tests : (P : Out → Type 0) (site : Site) (lent : ℕ) (node : Node) (step : Step) → (refusal (testsOf site lent node step) ≡ 0 → P (effectOf site node step))
-    → ((number : ℕ) → P (refused number site node)) → P (stepped site lent node step)
-unfolding stepped
-by-tests P site lent node step done fails = go (eqb (refusal (testsOf site lent node step)) 0) refl
-  where
-    go : (b : Bool) → eqb (refusal (testsOf site lent node step)) 0 ≡ b → P (cond b (effectOf site node step) (refused (refusal (testsOf site lent node step)) site node))
-    go true e = done (eqb-true (refusal (testsOf site lent node step)) 0 e)
-    go false e = fails (refusal (testsOf site lent node step))
-
-abbrev pub isDone : Answer → Bool
-isDone (Done sent) = true
-isDone (Refused number) = false
-
-pub effect-done : (site : Site) (node : Node) (step : Step) → isDone (effectOf site node step .answer) ≡ true
-unfolding effectOf act commanded
-effect-done site node (Start f k compromised status g) = refl
-effect-done site node Tick = refl
-effect-done site node (Report i t status number) = refl
-effect-done site node (Deliver sender i t status T) = refl
-effect-done site node (ShareTimeout i t) = refl
-effect-done site node (ResendTimeout i t) = refl
-effect-done site node (Command t status T) = refl
-effect-done site node (Ack i t back) = refl
-effect-done site node (Query i t) = refl
-effect-done site node (Down i) = refl
-effect-done site node (Up i) = refl
 
 -- ---- a step that is done names a node of the table, or none
 

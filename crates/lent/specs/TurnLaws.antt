@@ -20,7 +20,8 @@ use Rattle.site.specs.Steps.{effectOf, stepped}
 use Rattle.lent.specs.Lent.{recordOf, outOf, firstRecords, tableAfterAnswer, tableAfter}
 use Rattle.steps.specs.Actor.{actor}
 use Rattle.lent.specs.InTurn.{indexOf, outAt, beginsOf, compromisedOf}
-use Rattle.lent.specs.LentLaws.{begun-none, begins-within, by-tests, isDone, effect-done}
+use Rattle.lent.specs.LentLaws.{begun-none, begins-within}
+use Rattle.site.specs.StepLaws.{by-tests, isDone, effect-done}
 
 record-at : (named : Option ℕ) (records : List Node) → getD records (indexOf named (length records)) wentDown ≡ recordOf named records
 record-at none records = List·getD-eq-default records wentDown (omega arith)

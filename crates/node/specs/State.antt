@@ -18,31 +18,31 @@ abbrev pub attempts : Pair → Pair → Bool
 attempts r b = not (same r b) && leb (b .stamp .0) (r .stamp .0)
 
 -- what is asked of a state
-abbrev pub isAttempt : State → Bool
-isAttempt (Done A) = false
-isAttempt (Attempt A) = true
-isAttempt (Wait A) = false
+abbrev pub saysAttempt : State → Bool
+saysAttempt (Done A) = false
+saysAttempt (Attempt A) = true
+saysAttempt (Wait A) = false
 
-abbrev pub isDone : State → Bool
-isDone (Done A) = true
-isDone (Attempt A) = false
-isDone (Wait A) = false
+abbrev pub saysDone : State → Bool
+saysDone (Done A) = true
+saysDone (Attempt A) = false
+saysDone (Wait A) = false
 
 -- what the promises ask of r and b is what the state says
-pub attempts-state : (r b : Pair) → attempts r b ≡ isAttempt (state r b)
+pub attempts-state : (r b : Pair) → attempts r b ≡ saysAttempt (state r b)
 unfolding state
 attempts-state r b = go (same r b) (leb (b .stamp .0) (r .stamp .0))
   where
-    go : (s l : Bool) → (not s && l) ≡ isAttempt (cond s (Done (b .status)) (cond l (Attempt (r .status)) (Wait (b .status))))
+    go : (s l : Bool) → (not s && l) ≡ saysAttempt (cond s (Done (b .status)) (cond l (Attempt (r .status)) (Wait (b .status))))
     go true l = refl
     go false true = refl
     go false false = refl
 
-pub same-state : (r b : Pair) → same r b ≡ isDone (state r b)
+pub same-state : (r b : Pair) → same r b ≡ saysDone (state r b)
 unfolding state
 same-state r b = go (same r b) (leb (b .stamp .0) (r .stamp .0))
   where
-    go : (s l : Bool) → s ≡ isDone (cond s (Done (b .status)) (cond l (Attempt (r .status)) (Wait (b .status))))
+    go : (s l : Bool) → s ≡ saysDone (cond s (Done (b .status)) (cond l (Attempt (r .status)) (Wait (b .status))))
     go true l = refl
     go false true = refl
     go false false = refl

@@ -10,23 +10,9 @@ use Rattle.steps.specs.declared.Step.{Step}
 use Rattle.steps.specs.declared.Step.the-variants.{Start, Tick, Report, Deliver, ShareTimeout, ResendTimeout, Command, Ack, Query, Down, Up}
 use Rattle.node.specs.declared.Node.{Node}
 use Rattle.site.specs.declared.Site.{Site}
-use Rattle.site.specs.Effects.{numberOf, refused, act, commanded}
+use Rattle.site.specs.Effects.{numberOf, refused}
 use Rattle.site.specs.Steps.{testsOf, effectOf, stepped}
-
--- What a step does is answered with 0, done
-done-is : (site : Site) (node : Node) (step : Step) → numberOf (effectOf site node step .answer) ≡ 0
-unfolding effectOf act commanded
-done-is site node (Start f k compromised status g) = refl
-done-is site node Tick = refl
-done-is site node (Report i t status number) = refl
-done-is site node (Deliver sender i t status T) = refl
-done-is site node (ShareTimeout i t) = refl
-done-is site node (ResendTimeout i t) = refl
-done-is site node (Command t status T) = refl
-done-is site node (Ack i t back) = refl
-done-is site node (Query i t) = refl
-done-is site node (Down i) = refl
-done-is site node (Up i) = refl
+use Rattle.site.specs.StepLaws.{effect-done, done-number}
 
 -- no test has the number 0
 tests-numbered : (site : Site) (lent : ℕ) (node : Node) (step : Step) → numbered (testsOf site lent node step) ≡ true
@@ -57,7 +43,7 @@ module _ (site : Site) (lent : ℕ) (node : Node) (step : Step) where
       go number = by (eqb number 0) refl
         where
           by : (zero : Bool) → eqb number 0 ≡ zero → numberOf (cond zero (effectOf site node step) (refused number site node) .answer) ≡ number
-          by true e = rw (done-is site node step) (sym (eqb-true number 0 e))
+          by true e = rw (done-number (effectOf site node step .answer) (effect-done site node step)) (sym (eqb-true number 0 e))
           by false e = refl
 
   -- It is 0 exactly when every test is passed.

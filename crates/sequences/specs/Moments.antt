@@ -12,7 +12,7 @@ use Rattle.steps.specs.declared.Step.{Step}
 use Rattle.site.specs.declared.Site.{Site}
 use Rattle.site.specs.declared.Answer.{Answer}
 use Rattle.lent.specs.Lent.{outOf, tableAfter}
-use Rattle.lent.specs.LentLaws.{isDone}
+use Rattle.site.specs.StepLaws.{isDone}
 use Rattle.sequences.specs.History.{Entry}
 
 pub record Moment : Type 0 where

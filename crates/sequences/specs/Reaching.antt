@@ -32,7 +32,7 @@ use Rattle.site.specs.Steps.{testsOf, effectOf}
 use Rattle.lent.specs.Lent.{recordOf, outOf, firstRecords, tableAfter}
 use Rattle.steps.specs.Actor.{actor}
 use Rattle.lent.specs.Lent.{tableAfterAnswer}
-use Rattle.lent.specs.LentLaws.{by-tests}
+use Rattle.site.specs.StepLaws.{by-tests}
 use Rattle.rows.specs.Named.{Beginning}
 use Rattle.sequences.specs.History.{Entry, lastStart, accepted, atNode}
 use Rattle.sequences.specs.Moments.{Moment, Reached, from, then}

@@ -24,7 +24,7 @@ use Rattle.site.specs.Effects.{ticked, act, commanded}
 use Rattle.site.specs.Steps.{testsOf, effectOf}
 use Rattle.lent.specs.Lent.{recordOf, outOf}
 use Rattle.steps.specs.Actor.{actor}
-use Rattle.lent.specs.LentLaws.{by-tests}
+use Rattle.site.specs.StepLaws.{by-tests}
 use Rattle.rows.specs.Named.{StepKind, command, isKind, named, Of}
 use Rattle.sequences.specs.History.{Entry, Accepted, accepted}
 use Rattle.sequences.specs.Moments.{Moment, Reached, from, then}

@@ -43,7 +43,8 @@ use Rattle.site.specs.Steps.{testsOf, effectOf}
 use Rattle.lent.specs.Lent.{recordOf, outOf, tableAfter}
 use Rattle.steps.specs.Actor.{actor}
 use Rattle.lent.specs.Lent.{tableAfterAnswer}
-use Rattle.lent.specs.LentLaws.{by-tests, named-within}
+use Rattle.lent.specs.LentLaws.{named-within}
+use Rattle.site.specs.StepLaws.{by-tests}
 use Rattle.rows.specs.Named.{named, Of}
 use Rattle.sequences.specs.Demand.{Always, MovedBySending}
 use Rattle.sequences.specs.Passing.{taken, Placed, remembered-change}

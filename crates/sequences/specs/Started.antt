@@ -17,7 +17,7 @@ use Rattle.site.specs.Effects.{ticked, act, commanded}
 use Rattle.site.specs.Steps.{testsOf, effectOf}
 use Rattle.lent.specs.Lent.{recordOf, outOf}
 use Rattle.steps.specs.Actor.{actor}
-use Rattle.lent.specs.LentLaws.{isDone, by-tests}
+use Rattle.site.specs.StepLaws.{isDone, by-tests}
 use Rattle.rows.specs.Named.{Beginning}
 use Rattle.sequences.specs.History.{Entry, lastStart}
 use Rattle.sequences.specs.Moments.{Moment, Reached, from, then, Accepts}
