@@ -10,7 +10,7 @@ use Rattle.time.specs.declared.Dts.{Dts}
 use Rattle.time.specs.Discretising.{discretised, defaultInterval}
 use Rattle.time.specs.Fresh.{freshAt}
 use Rattle.time.specs.Newer.{newer, ahead}
-use Rattle.senders.specs.Sets.{count}
+use Rattle.senders.specs.Sets.{countBelow}
 use Rattle.senders.specs.Masks.{isIn, size, enough, joined, within, together}
 use Rattle.tables.specs.Tables.{table}
 use Rattle.store.specs.Store.{empty, put, hasPlace, sendersOf, storeWithin}
@@ -102,5 +102,5 @@ all [] = true
 all (e ∷ es) = e .1 && all es
 
 pub every-edge : all edges ≡ true
-unfolding edges discretised refusal passed state newer ahead size count isIn joined within together stepped testsOf effectOf siteSound setsSound storeWithin breakerSound changesSound commanded changed remembered started startedSite sendersOf hasPlace put empty table wentDown
+unfolding edges discretised refusal passed state newer ahead size countBelow isIn joined within together stepped testsOf effectOf siteSound setsSound storeWithin breakerSound changesSound commanded changed remembered started startedSite sendersOf hasPlace put empty table wentDown
 every-edge = refl

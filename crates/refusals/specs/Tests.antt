@@ -23,8 +23,8 @@ passed [] = true
 passed (t ∷ ts) = t .1 && passed ts
 
 -- the refusal of some tests, with others after them
-unfoldable pub orElse : ℕ → ℕ → ℕ
-orElse earlier later = cond (eqb earlier 0) later earlier
+unfoldable pub orLater : ℕ → ℕ → ℕ
+orLater earlier later = cond (eqb earlier 0) later earlier
 
 -- no test has the number 0, which means done
 abbrev pub numbered : List Test → Bool
@@ -61,13 +61,13 @@ each-passed zero (t ∷ ts) h = and-eq-true-iff (t .1) (passed ts) .0 h .0
 each-passed (suc i) (t ∷ ts) h = each-passed i ts (and-eq-true-iff (t .1) (passed ts) .0 h .1)
 
 -- Two lists of tests, one after the other.
-pub appended : (ts us : List Test) → numbered ts ≡ true → orElse (refusal ts) (refusal us) ≡ refusal (ts ++ us)
-unfolding refusal orElse
+pub appended : (ts us : List Test) → numbered ts ≡ true → orLater (refusal ts) (refusal us) ≡ refusal (ts ++ us)
+unfolding refusal orLater
 appended [] us n = refl
 appended (t ∷ ts) us n = go (t .1) (appended ts us (and-eq-true-iff (ltb 0 (t .0)) (numbered ts) .0 n .1))
   where
-    go : (b : Bool) → orElse (refusal ts) (refusal us) ≡ refusal (ts ++ us)
-        → orElse (cond b (refusal ts) (t .0)) (refusal us) ≡ cond b (refusal (ts ++ us)) (t .0)
+    go : (b : Bool) → orLater (refusal ts) (refusal us) ≡ refusal (ts ++ us)
+        → orLater (cond b (refusal ts) (t .0)) (refusal us) ≡ cond b (refusal (ts ++ us)) (t .0)
     go true ih = ih
     go false ih = ap (λ (b : Bool). cond b (refusal us) (t .0)) (ne-eqb (t .0) 0 (not-zero (t .0) (and-eq-true-iff (ltb 0 (t .0)) (numbered ts) .0 n .0)))
 

@@ -11,7 +11,7 @@ use lib.Count.{ones, onesIn, ones-step}
 use lib.Dec.{eqb, ltb, lit<}
 use lib.Pow.{pow-lt, pow-mono, shr-lt, shr-shr}
 use borrow.Author.Tests.{eq-eqb, eqb-true, eqb-false, ne-eqb, lt-ltb, ltb-true}
-use Rattle.senders.specs.Sets.{count, tally, both, count-ext, count-low, count-joined, count-above, outside}
+use Rattle.senders.specs.Sets.{countBelow, tally, both, count-ext, count-low, count-joined, count-above, outside}
 use Rattle.senders.specs.Masks.{room, isIn, size, joined, without, together}
 use Rattle.senders.specs.Bits.{bit, bit-lt, bit-or, bit-xor, own-bit, other-bit}
 
@@ -21,14 +21,14 @@ isIn-suc : (mask i : ℕ) → isIn (mask / 2) i ≡ isIn mask (suc i)
 unfolding isIn
 isIn-suc mask i = ap (λ (x : ℕ). eqb (x % 2) 1) (shr-shr mask 1 i ∙ ap (λ (k : ℕ). mask / 2 ^ k) (one-add i))
 
-ones-count : (k mask : ℕ) → mask < 2 ^ k → ones mask ≡ count k (isIn mask)
-unfolding ones onesIn count isIn
+ones-count : (k mask : ℕ) → mask < 2 ^ k → ones mask ≡ countBelow k (isIn mask)
+unfolding ones onesIn countBelow isIn
 ones-count zero mask h = ap ones (lt-one h)
 ones-count (suc k) mask h =
     ones-step mask
     ∙ ap (λ (x : ℕ). mask % 2 + x) (ones-count k (mask / 2) (shr-lt k 1 (rw add-one h)) ∙ count-ext k (isIn (mask / 2)) (λ i. isIn mask (suc i)) (λ i l. isIn-suc mask i))
-    ∙ digit (mask % 2) (count k (λ i. isIn mask (suc i))) (mod-lt mask (lit< tt))
-    ∙ ap (λ (x : ℕ). tally (eqb (x % 2) 1) (count k (λ i. isIn mask (suc i)))) (sym (div-one mask))
+    ∙ digit (mask % 2) (countBelow k (λ i. isIn mask (suc i))) (mod-lt mask (lit< tt))
+    ∙ ap (λ (x : ℕ). tally (eqb (x % 2) 1) (countBelow k (λ i. isIn mask (suc i)))) (sym (div-one mask))
     ∙ sym (count-low k (isIn mask))
   where
     digit : (d k : ℕ) → d < 2 → d + k ≡ tally (eqb d 1) k
@@ -184,7 +184,7 @@ size-joined mask i l e =
     (λ j ne. sym (in-joined mask i j ∙ ap₂ (λ (a b : Bool). a && b || isIn mask j) (lt-ltb i room l) (ne-eqb j i ne)))
 
 -- More than f senders, at most f of them in c, all below n: one of them is outside c.
-pub some-outside : (n mask c f : ℕ) → n ≤ room → ((i : ℕ) → isIn mask i ≡ true → i < n) → f < size mask → count n (both (isIn mask) (isIn c)) ≤ f
+pub some-outside : (n mask c f : ℕ) → n ≤ room → ((i : ℕ) → isIn mask i ≡ true → i < n) → f < size mask → countBelow n (both (isIn mask) (isIn c)) ≤ f
     → (i : ℕ) × (i < n) × (isIn mask i ≡ true) × (isIn c i ≡ false)
 unfolding size
 some-outside n mask c f m below h k = outside n (isIn mask) (isIn c) (omega (arith, count-above n room (isIn mask) m above))

@@ -3,7 +3,7 @@ use Prim.Native.Nat.{ℕ, _+_, _/_, _%_, _^_}
 use mathlib.Core.Bool.{Bool, cond}
 use lib.Bits.{bitOr, bitXor}
 use lib.Dec.{eqb, leb, ltb}
-use Rattle.senders.specs.Sets.{count}
+use Rattle.senders.specs.Sets.{countBelow}
 
 -- how many senders a mask has room for
 abbrev pub room : ℕ
@@ -15,7 +15,7 @@ isIn mask i = eqb (mask / 2 ^ i % 2) 1
 
 -- how many senders are in the set
 unfoldable pub size : ℕ → ℕ
-size mask = count room (isIn mask)
+size mask = countBelow room (isIn mask)
 
 -- "The threshold is f + 1": the set has at least so many senders
 abbrev pub enough : ℕ → ℕ → Bool

@@ -9,7 +9,7 @@ use mathlib.Core.List.{List, [], _∷_}
 use mathlib.Core.Logic.{_⊎_}
 use mathlib.Core.Option.{some}
 use Rattle.time.specs.declared.Dts.{Dts}
-use Rattle.senders.specs.Sets.{count}
+use Rattle.senders.specs.Sets.{countBelow}
 use Rattle.senders.specs.Masks.{isIn, size}
 use Rattle.pairs.specs.declared.Pair.{Pair}
 use Rattle.pairs.specs.declared.Known.the-variants.{Yes}
@@ -88,7 +88,7 @@ module _ (h : List Entry) (m : Moment) (b : Beginning) where
   abbrev pub NoneLeft : Type 0
   NoneLeft =
       (j : ℕ) → Correct b j → (rec : Record) → nodeAt m j .phase ≡ Running rec → attempts (rec .r) (rec .b) ≡ true
-      → (T : Dts) → rec .b .stamp .0 < T .0 → count (nodes (b .f) (b .k)) (holds m j (rec .r .status) T) ≤ b .f
+      → (T : Dts) → rec .b .stamp .0 < T .0 → countBelow (nodes (b .f) (b .k)) (holds m j (rec .r .status) T) ≤ b .f
 
   -- And what it takes for the breaker's moves, in a step at it while it runs, only by the change that an ack delivers or by a command that it sends in
   -- that step.

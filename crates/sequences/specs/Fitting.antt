@@ -33,7 +33,7 @@ use Rattle.steps.specs.declared.Step.{Step}
 use Rattle.steps.specs.declared.Step.the-variants.{Deliver}
 use Rattle.site.specs.declared.Sent.{Sent}
 use Rattle.rows.specs.Named.{report, ack, query, among}
-use Rattle.sequences.specs.History.{Accepted, stepKind, lastReport, clock, life, any, runs, brought, deliveries}
+use Rattle.sequences.specs.History.{Accepted, stepKind, lastReport, clock, life, oneOf, runs, brought, deliveries}
 use Rattle.sequences.specs.Holding.{Near, near-fresh, has-append, has-cond, held-all, clock-all, held-later}
 
 -- the last clock that a step can name
@@ -50,8 +50,8 @@ isKnown No = false
 -- for node j of a site whose threshold is f + 1
 module _ (f j : ℕ) where
   pub record StartingFits (l : Learned) (own : List Accepted) : Type 0 where
-    pub r-known : isKnown (l .r) ≡ any (report ∷ []) (life own)
-    pub b-known : isKnown (l .b) ≡ any (ack ∷ query ∷ []) (life own)
+    pub r-known : isKnown (l .r) ≡ oneOf (report ∷ []) (life own)
+    pub b-known : isKnown (l .b) ≡ oneOf (ack ∷ query ∷ []) (life own)
     pub not-both : (isKnown (l .r) && isKnown (l .b)) ≡ false
     pub relay : (r : Pair) → l .r ≡ Yes r → (lastReport own ≡ some (r .status)) × (r .status ≤ 1)
 
@@ -87,7 +87,7 @@ module _ (f j : ℕ) where
   runs-on : (step : Step) (t : Dts) (A : ℕ) (own : List Accepted) (sent : Sent) → Told step t A own → runs own ≡ true → runs (doneWith step sent ∷ own) ≡ true
   runs-on step t A own sent told e =
       let a : Accepted = doneWith step sent in
-      let p = and-eq-true-iff (any (report ∷ []) (life own)) (any (ack ∷ query ∷ []) (life own)) .0 e in
+      let p = and-eq-true-iff (oneOf (report ∷ []) (life own)) (oneOf (ack ∷ query ∷ []) (life own)) .0 e in
       rw (told .told-life sent)
       (both (among (stepKind a) (report ∷ [])) (among (stepKind a) (ack ∷ query ∷ [])) _ _ (p .0) (p .1))
     where
@@ -209,8 +209,8 @@ module _ (f j : ℕ) where
 
   begins-running : (step : Step) (r b : Pair) (number : Last) (t : Dts) (own : List Accepted) → runs own ≡ false → t .0 ≤ latestClock
       → ((sent : Sent) → clock (doneWith step sent ∷ own) ≡ some t)
-      → ((sent : Sent) → true ≡ any (report ∷ []) (life (doneWith step sent ∷ own)))
-      → ((sent : Sent) → true ≡ any (ack ∷ query ∷ []) (life (doneWith step sent ∷ own)))
+      → ((sent : Sent) → true ≡ oneOf (report ∷ []) (life (doneWith step sent ∷ own)))
+      → ((sent : Sent) → true ≡ oneOf (ack ∷ query ∷ []) (life (doneWith step sent ∷ own)))
       → ((sent : Sent) (p : Pair) → Yes r ≡ Yes p → (lastReport (doneWith step sent ∷ own) ≡ some (p .status)) × (p .status ≤ 1))
       → FitsAfter step (begun (record { r = Yes r; b = Yes b; number = number }) t) own
   unfolding begun finished putAll empty
@@ -240,8 +240,8 @@ module _ (f j : ℕ) where
   -- A starting node that is told something: it runs once both are known, its store empty.
   pub begins : (step : Step) (r b : Known) (number : Last) (t : Dts) (own : List Accepted) → runs own ≡ false → t .0 ≤ latestClock
       → ((sent : Sent) → clock (doneWith step sent ∷ own) ≡ some t)
-      → ((sent : Sent) → isKnown r ≡ any (report ∷ []) (life (doneWith step sent ∷ own)))
-      → ((sent : Sent) → isKnown b ≡ any (ack ∷ query ∷ []) (life (doneWith step sent ∷ own)))
+      → ((sent : Sent) → isKnown r ≡ oneOf (report ∷ []) (life (doneWith step sent ∷ own)))
+      → ((sent : Sent) → isKnown b ≡ oneOf (ack ∷ query ∷ []) (life (doneWith step sent ∷ own)))
       → ((sent : Sent) (p : Pair) → r ≡ Yes p → (lastReport (doneWith step sent ∷ own) ≡ some (p .status)) × (p .status ≤ 1))
       → FitsAfter step (begun (record { r = r; b = b; number = number }) t) own
   unfolding begun finished

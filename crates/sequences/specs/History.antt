@@ -74,14 +74,14 @@ abbrev pub lastReport : List Accepted → Option ℕ
 lastReport [] = none
 lastReport (a ∷ rest) = cond (isKind (stepKind a) report) (named (a .step) .status) (lastReport rest)
 
-abbrev orElse : Option Dts → Option Dts → Option Dts
-orElse (some t) before = some t
-orElse none before = before
+abbrev latestOf : Option Dts → Option Dts → Option Dts
+latestOf (some t) before = some t
+latestOf none before = before
 
 -- its clock: the one that its last step with a clock named
 abbrev pub clock : List Accepted → Option Dts
 clock [] = none
-clock (a ∷ rest) = orElse (named (a .step) .clock) (clock rest)
+clock (a ∷ rest) = latestOf (named (a .step) .clock) (clock rest)
 
 -- the steps since it last went down or came up, or since Start
 abbrev pub life : List Accepted → List Accepted
@@ -89,13 +89,13 @@ life [] = []
 life (a ∷ rest) = cond (among (stepKind a) (down ∷ up ∷ [])) [] (a ∷ life rest)
 
 -- one of these kinds is among the steps
-abbrev pub any : List StepKind → List Accepted → Bool
-any kinds [] = false
-any kinds (a ∷ rest) = among (stepKind a) kinds || any kinds rest
+abbrev pub oneOf : List StepKind → List Accepted → Bool
+oneOf kinds [] = false
+oneOf kinds (a ∷ rest) = among (stepKind a) kinds || oneOf kinds rest
 
 -- "When r and b are both known it runs": in this life its relay has reported, and the breaker has acknowledged or answered a query
 abbrev pub runs : List Accepted → Bool
-runs rest = any (report ∷ []) (life rest) && any (ack ∷ query ∷ []) (life rest)
+runs rest = oneOf (report ∷ []) (life rest) && oneOf (ack ∷ query ∷ []) (life rest)
 
 abbrev deliveredFrom : ℕ → Option ℕ → Option ℕ → Option Dts → List Pair
 deliveredFrom i (some sender) (some A) (some T) = cond (eqb i sender) (pair A T ∷ []) []

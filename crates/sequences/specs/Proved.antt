@@ -12,7 +12,7 @@ use Rattle.refusals.specs.Bools.{and-false}
 use Rattle.refusals.specs.Tests.{done-passed, each-passed}
 use Rattle.time.specs.declared.Dts.{Dts}
 use Rattle.time.specs.Fresh.{fresh, window}
-use Rattle.senders.specs.Sets.{count, count-more, count-none}
+use Rattle.senders.specs.Sets.{countBelow, count-more, count-none}
 use Rattle.senders.specs.Masks.{isIn, size, room}
 use Rattle.store.specs.declared.Store.{Store}
 use Rattle.store.specs.Store.{sendersOf}
@@ -32,7 +32,7 @@ use Rattle.site.specs.Tests.{commandTests}
 use Rattle.site.specs.CommandLaws.{shared-by-one, stamp-above}
 use Rattle.site.specs.Steps.{testsOf}
 use Rattle.rows.specs.Named.{report, ack, query}
-use Rattle.sequences.specs.History.{Accepted, accepted, atNode, clock, life, any, runs, deliveries, freshAtClock}
+use Rattle.sequences.specs.History.{Accepted, accepted, atNode, clock, life, oneOf, runs, deliveries, freshAtClock}
 use Rattle.sequences.specs.Moments.{nodeAt, holds}
 use Rattle.sequences.specs.Demand.{Always, AtMostF, SharedByACorrectNode, StampsRise, RunsAsTold, HeldExactly, NoneLeft, OneSendersOwn}
 use Rattle.sequences.specs.Fitting.{Fits, StartingFits, RunningFits}
@@ -72,7 +72,7 @@ module _ (f j : ℕ) (s : Store) (own : List Accepted) where
   not-yet l fits = ap₂ (λ (x y : Bool). x && y) (sym (fits .r-known)) (sym (fits .b-known)) ∙ fits .not-both
 
   lifeless : life own ≡ [] → runs own ≡ false
-  lifeless e = ap (λ (l : List Accepted). any (report ∷ []) l && any (ack ∷ query ∷ []) l) e
+  lifeless e = ap (λ (l : List Accepted). oneOf (report ∷ []) l && oneOf (ack ∷ query ∷ []) l) e
 
   runs-told : (p : Phase) → Fits f j p s own → isRunning (record { phase = p; store = s }) ≡ runs own
   runs-told NotUp fits = sym (lifeless fits)
@@ -103,13 +103,13 @@ one-senders-own first first′ h h′ m m′ r r′ b b′ q q′ j c c′ e e�
 -- ---- 4
 
 few-held : (f j : ℕ) (rec : Record) (s : Store) (own : List Accepted) (n : ℕ) → n ≤ room → RunningFits f j rec s own → attempts (rec .r) (rec .b) ≡ true
-    → (T : Dts) → rec .b .stamp .0 < T .0 → count n (held s (rec .r .status) T) ≤ f
+    → (T : Dts) → rec .b .stamp .0 < T .0 → countBelow n (held s (rec .r .status) T) ≤ f
 unfolding size held
 few-held f j rec s own n l fits attempts-now T above = go (ltb (T .0) (2 ^ 32)) refl
   where
-    go : (x : Bool) → ltb (T .0) (2 ^ 32) ≡ x → count n (held s (rec .r .status) T) ≤ f
+    go : (x : Bool) → ltb (T .0) (2 ^ 32) ≡ x → countBelow n (held s (rec .r .status) T) ≤ f
     go true e =
-        let few : count room (isIn (sendersOf s (rec .r .status) T)) ≤ f = earliest-nothing s (rec .r .status) (rec .b .stamp) f (fits .quiet attempts-now) T above (ltb-true _ _ e) in
+        let few : countBelow room (isIn (sendersOf s (rec .r .status) T)) ≤ f = earliest-nothing s (rec .r .status) (rec .b .stamp) f (fits .quiet attempts-now) T above (ltb-true _ _ e) in
         let more = count-more n room (held s (rec .r .status) T) l in
         omega (arith, few, more)
     go false e =
@@ -127,5 +127,5 @@ pub none-left : Always NoneLeft
 none-left first h m r b q j c rec is attempts-now T above =
     let keeps = reached-keeps r b q in
     let fits = subst (λ (p : Phase). Fits (m .site .f) j p (nodeAt m j .store) (atNode j (accepted h))) is (keeps .fits j c) in
-    subst (λ (f : ℕ). count (nodes (b .f) (b .k)) (holds m j (rec .r .status) T) ≤ f) (keeps .same-f)
+    subst (λ (f : ℕ). countBelow (nodes (b .f) (b .k)) (holds m j (rec .r .status) T) ≤ f) (keeps .same-f)
     (few-held (m .site .f) j rec (nodeAt m j .store) (atNode j (accepted h)) (nodes (b .f) (b .k)) (keeps .few-nodes) fits attempts-now T above)

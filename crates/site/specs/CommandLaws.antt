@@ -6,7 +6,7 @@ use native.Mathlib.Omega.{arith}
 use borrow.Author.Tests.{leb-true, ltb-true}
 use Rattle.refusals.specs.Tests.{passed, each-passed}
 use Rattle.time.specs.declared.Dts.{Dts}
-use Rattle.senders.specs.Sets.{count, count-ext, either, vouched}
+use Rattle.senders.specs.Sets.{countBelow, count-ext, either, vouched}
 use Rattle.senders.specs.Masks.{isIn, size, room}
 use Rattle.senders.specs.MaskLaws.{in-together}
 use Rattle.store.specs.Store.{sendersOf}
@@ -20,7 +20,7 @@ pub shared-by-one : (site : Site) (A : ℕ) (T : Dts) → size (site .compromise
     → (i : ℕ) × (isIn (site .compromised) i ≡ false) × (held (site .made) A T i ≡ true)
 unfolding size held
 shared-by-one site A T few says =
-    let enough : site .f + 1 ≤ count room (isIn (counted site A T)) = leb-true _ _ says in
+    let enough : site .f + 1 ≤ countBelow room (isIn (counted site A T)) = leb-true _ _ says in
     let same = count-ext room (isIn (counted site A T)) (either (isIn (site .compromised)) (isIn (sendersOf (site .made) A T))) (λ i l. in-together (site .compromised) (sendersOf (site .made) A T) i) in
     let found = vouched room (site .f) (isIn (site .compromised)) (isIn (sendersOf (site .made) A T)) few (omega (arith, enough, same)) in
     (found .0, found .3, found .2)

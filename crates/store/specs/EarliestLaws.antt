@@ -11,7 +11,7 @@ use lib.Seq.{drop-cons}
 use borrow.Author.Tests.{ltb-true, leb-true, lt-ltb, leb-false}
 use Rattle.time.specs.declared.Dts.{Dts}
 use Rattle.time.specs.Fresh.{window}
-use Rattle.senders.specs.Sets.{count}
+use Rattle.senders.specs.Sets.{countBelow}
 use Rattle.senders.specs.Masks.{isIn, size}
 use Rattle.tables.specs.Tables.{table, length-table, getD-table}
 use Rattle.store.specs.declared.Store.{Store}
@@ -81,7 +81,7 @@ search-nothing test (suc n) rule e j l = go (test (rule zero)) refl e (search-no
 -- ---- what the answer says
 
 size-none : size 0 ≡ 0
-unfolding size count isIn
+unfolding size countBelow isIn
 size-none = refl
 
 -- whoever is held from anybody is fresh

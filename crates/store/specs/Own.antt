@@ -7,7 +7,7 @@ use lib.Dec.{eqb}
 use borrow.Author.Tests.{ne-eqb}
 use Rattle.time.specs.declared.Dts.{Dts}
 use Rattle.time.specs.Fresh.{window}
-use Rattle.senders.specs.Sets.{count, count-window}
+use Rattle.senders.specs.Sets.{countBelow, count-window}
 use Rattle.store.specs.declared.Store.{Store}
 use Rattle.store.specs.Store.{stamps, places, put}
 use Rattle.store.specs.Places.{bounds}
@@ -16,7 +16,7 @@ use Rattle.store.specs.Earliest.{dts}
 
 -- how many stamps below n a sender is held at, for an action
 abbrev pub heldStamps : Store → ℕ → ℕ → ℕ → ℕ
-heldStamps s n a i = count n (λ T. held s a (dts T) i)
+heldStamps s n a i = countBelow n (λ T. held s a (dts T) i)
 
 -- five for each action, however far one counts
 five : (s : Store) (n a i : ℕ) → heldStamps s n a i ≤ stamps

@@ -1,4 +1,4 @@
-use Rattle.refusals.specs.Tests.{orElse}
+use Rattle.refusals.specs.Tests.{orLater}
 use borrow.Author.Tests.{eq-eqb, ne-eqb}
 use Rattle.refusals.proofs.first.Statement.{statement}
 use Rattle.refusals.proofs.first.Tie as tie
@@ -7,12 +7,12 @@ use Rattle.refusals.proofs.first.Lts as lts
 
 -- src/lib.rt:18:1
 returns : tie.Need-returns
-unfolding orElse
+unfolding orLater
 returns c = simp (eq-eqb _ _ (c .if1 .taken))
 
 -- src/lib.rt:18:1
 returns-2 : tie.Need-returns-2
-unfolding orElse
+unfolding orLater
 returns-2 c = simp (ne-eqb _ _ (c .if1 .left))
 
 pub first-spec : {M : Type 1} → statement M
