@@ -19,75 +19,75 @@ module _ (site : Site) (lent : ℕ) (node : Node) (step : Step) where
   Given number = given site lent node step ≡ number
 
   -- no row that is checked before this one has its condition met
-  abbrev pub Earlier : ℕ → Type 0
-  Earlier number = NoneBefore number (refusalTable site lent node step)
+  abbrev pub NoneEarlier : ℕ → Type 0
+  NoneEarlier number = NoneBefore number (refusalTable site lent node step)
 
   -- "done": no row at all has its condition met
   pub row-0 : Given 0 ↔ None (refusalTable site lent node step)
   row-0 = told-done site lent node step
 
   -- "Start: f, k, status or g out of range, a compromised number not below n, more than f compromised, table shorter than n"
-  pub row-1 : Given 1 ↔ (Earlier 1 × StartOutOfRange site lent node step)
+  pub row-1 : Given 1 ↔ (NoneEarlier 1 × StartOutOfRange site lent node step)
   row-1 = told site lent node step 1 (lit< tt)
 
   -- "node or sender ≥ n, status above 1, back above 7"
-  pub row-2 : Given 2 ↔ (Earlier 2 × OutsideItsRange site lent node step)
+  pub row-2 : Given 2 ↔ (NoneEarlier 2 × OutsideItsRange site lent node step)
   row-2 = told site lent node step 2 (lit< tt)
 
   -- "the acting node (for Deliver, the receiver) is compromised"
-  pub row-3 : Given 3 ↔ (Earlier 3 × ActorCompromised site lent node step)
+  pub row-3 : Given 3 ↔ (NoneEarlier 3 × ActorCompromised site lent node step)
   row-3 = told site lent node step 3 (lit< tt)
 
   -- "the node's phase does not take this step (Down of a down node, Up of another)"
-  pub row-4 : Given 4 ↔ (Earlier 4 × PhaseDoesNotTake site lent node step)
+  pub row-4 : Given 4 ↔ (NoneEarlier 4 × PhaseDoesNotTake site lent node step)
   row-4 = told site lent node step 4 (lit< tt)
 
   -- "t is neither g nor g+1"
-  pub row-5 : Given 5 ↔ (Earlier 5 × NeitherNowNorNext site lent node step)
+  pub row-5 : Given 5 ↔ (NoneEarlier 5 × NeitherNowNorNext site lent node step)
   row-5 = told site lent node step 5 (lit< tt)
 
   -- "t is below that node's, or the breaker's, last accepted clock since it started"
-  pub row-6 : Given 6 ↔ (Earlier 6 × BelowLastClock site lent node step)
+  pub row-6 : Given 6 ↔ (NoneEarlier 6 × BelowLastClock site lent node step)
   row-6 = told site lent node step 6 (lit< tt)
 
   -- "T not fresh at t"
-  pub row-7 : Given 7 ↔ (Earlier 7 × NotFresh site lent node step)
+  pub row-7 : Given 7 ↔ (NoneEarlier 7 × NotFresh site lent node step)
   row-7 = told site lent node step 7 (lit< tt)
 
   -- "share not made by its correct sender; for Command, verdict no"
-  pub row-8 : Given 8 ↔ (Earlier 8 × NotVouchedFor site lent node step)
+  pub row-8 : Given 8 ↔ (NoneEarlier 8 × NotVouchedFor site lent node step)
   row-8 = told site lent node step 8 (lit< tt)
 
   -- "report not new"
-  pub row-9 : Given 9 ↔ (Earlier 9 × ReportNotNew site lent node step)
+  pub row-9 : Given 9 ↔ (NoneEarlier 9 × ReportNotNew site lent node step)
   row-9 = told site lent node step 9 (lit< tt)
 
   -- "breaker already has that status"
-  pub row-10 : Given 10 ↔ (Earlier 10 × StatusAlready site lent node step)
+  pub row-10 : Given 10 ↔ (NoneEarlier 10 × StatusAlready site lent node step)
   row-10 = told site lent node step 10 (lit< tt)
 
   -- "T ≤ breaker's stamp"
-  pub row-11 : Given 11 ↔ (Earlier 11 × StampNotAbove site lent node step)
+  pub row-11 : Given 11 ↔ (NoneEarlier 11 × StampNotAbove site lent node step)
   row-11 = told site lent node step 11 (lit< tt)
 
   -- "timeout not armed"
-  pub row-12 : Given 12 ↔ (Earlier 12 × NotArmed site lent node step)
+  pub row-12 : Given 12 ↔ (NoneEarlier 12 × NotArmed site lent node step)
   row-12 = told site lent node step 12 (lit< tt)
 
   -- "fewer changes than `back` + 1"
-  pub row-13 : Given 13 ↔ (Earlier 13 × TooFewChanges site lent node step)
+  pub row-13 : Given 13 ↔ (NoneEarlier 13 × TooFewChanges site lent node step)
   row-13 = told site lent node step 13 (lit< tt)
 
   -- "Down: already k correct nodes down, by the site's own count"
-  pub row-14 : Given 14 ↔ (Earlier 14 × EnoughDown site lent node step)
+  pub row-14 : Given 14 ↔ (NoneEarlier 14 × EnoughDown site lent node step)
   row-14 = told site lent node step 14 (lit< tt)
 
   -- "Tick when g is 1,000,000,000"
-  pub row-15 : Given 15 ↔ (Earlier 15 × TickAtTheLast site lent node step)
+  pub row-15 : Given 15 ↔ (NoneEarlier 15 × TickAtTheLast site lent node step)
   row-15 = told site lent node step 15 (lit< tt)
 
   -- "any step but Start: no site started yet; a table shorter than n; a site number outside its range [..]; or the record of the acting node [..]"
-  pub row-16 : Given 16 ↔ (Earlier 16 × SiteOrRecordOutOfRange site lent node step)
+  pub row-16 : Given 16 ↔ (NoneEarlier 16 × SiteOrRecordOutOfRange site lent node step)
   row-16 = told site lent node step 16 (lit< tt)
 
   -- A step is answered with no other number.
