@@ -17,15 +17,16 @@ use Rattle.store.specs.Store.{empty, put, hasPlace, sendersOf, storeWithin}
 use Rattle.pairs.specs.declared.Pair.{Pair}
 use Rattle.pairs.specs.Pair.{pair}
 use Rattle.node.specs.State.{State, Done, Attempt, Wait, state}
-use Rattle.node.specs.Events.{wentDown}
+use Rattle.events.specs.Events.{wentDown}
 use Rattle.breaker.specs.Breaker.{started, changed, remembered, changesSound, breakerSound}
 use Rattle.steps.specs.declared.Step.{Step}
 use Rattle.steps.specs.declared.Step.the-variants.{Start, Command}
 use Rattle.site.specs.declared.Site.{Site}
 use Rattle.site.specs.Site.{nodes, setsSound, siteSound}
-use Rattle.site.specs.Tests.{verdict}
-use Rattle.site.specs.Effects.{numberOf, startedSite, withMade, commanded}
-use Rattle.site.specs.Steps.{testsOf, effectOf, stepped}
+use Rattle.refusing.specs.Tests.{verdict, testsOf}
+use Rattle.site.specs.Answers.{numberOf}
+use Rattle.effects.specs.Effects.{startedSite, withMade, commanded, effectOf}
+use Rattle.stepping.specs.Steps.{stepped}
 
 -- "Status 0 is CLOSE, 1 is TRIP."
 abbrev CLOSE : ℕ

@@ -45,7 +45,7 @@ fn start(f: u8, k: u8) -> Step {
 }
 
 fn with_three(site: Site) {
-    let down = node::events::down();
+    let down = events::down();
     let exactly = lent::step_in_three(site, [down; 3], start(1, 0));
     let answer = exactly.answer;
     say(b"Start, n = 3, three records: ", number_of(answer));
@@ -71,7 +71,7 @@ fn with_none(site: Site) {
 
 // A site that was started with enough records, and is then lent fewer.
 fn fewer_later(site: Site) {
-    let down = node::events::down();
+    let down = events::down();
     let enough = lent::step_in(site, [down; 12], start(1, 1));
     let answer = enough.answer;
     say(b"Start, n = 4, twelve records: ", number_of(answer));

@@ -6,7 +6,7 @@ use mathlib.Core.Option.{Option, none, some}
 use lib.ListN.{length, getD, set, drop}
 use Rattle.tables.specs.Tables.{table}
 use Rattle.node.specs.declared.Node.{Node}
-use Rattle.node.specs.Events.{wentDown}
+use Rattle.events.specs.Events.{wentDown}
 use Rattle.steps.specs.declared.Step.{Step}
 use Rattle.steps.specs.Actor.{actor}
 use Rattle.steps.specs.declared.Step.the-variants.{Start, Tick, Report, Deliver, ShareTimeout, ResendTimeout, Command, Ack, Query, Down, Up}
@@ -15,8 +15,8 @@ use Rattle.site.specs.declared.Answer.{Answer}
 use Rattle.site.specs.declared.Answer.the-variants.{Done, Refused}
 use Rattle.site.specs.declared.Out.{Out}
 use Rattle.site.specs.Site.{nodes}
-use Rattle.site.specs.Effects.{firstRecord}
-use Rattle.site.specs.Steps.{stepped}
+use Rattle.effects.specs.Effects.{firstRecord}
+use Rattle.stepping.specs.Steps.{stepped}
 
 -- the record of the node that a step names, where the table has one
 abbrev pub recordOf : Option ℕ → List Node → Node

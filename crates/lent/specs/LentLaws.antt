@@ -18,10 +18,10 @@ use Rattle.site.specs.declared.Site.{Site}
 use Rattle.site.specs.declared.Answer.{Answer}
 use Rattle.site.specs.declared.Answer.the-variants.{Done, Refused}
 use Rattle.site.specs.Site.{nodes, n, numbersSound, setsSound, siteSound, actorSound}
-use Rattle.site.specs.Tests.{isNode, startTests}
-use Rattle.site.specs.Effects.{firstRecord}
-use Rattle.site.specs.Steps.{testsOf, effectOf}
-use Rattle.site.specs.StepLaws.{by-tests, isDone}
+use Rattle.refusing.specs.Tests.{isNode, startTests, testsOf}
+use Rattle.effects.specs.Effects.{firstRecord, effectOf}
+use Rattle.stepping.specs.StepLaws.{by-tests}
+use Rattle.site.specs.Answers.{isDone}
 use Rattle.breaker.specs.Breaker.{breakerSound}
 use Rattle.lent.specs.Lent.{recordOf, outOf, firstRecords}
 use Rattle.steps.specs.Actor.{actor}

@@ -8,7 +8,7 @@ use native.Mathlib.Omega.{arith}
 use lib.ListN.{length, getD, set, length-set, List·getD-eq-default}
 use lib.Seq.{set-out, set-getD}
 use Rattle.node.specs.declared.Node.{Node}
-use Rattle.node.specs.Events.{wentDown}
+use Rattle.events.specs.Events.{wentDown}
 use Rattle.steps.specs.declared.Step.{Step}
 use Rattle.steps.specs.declared.Step.the-variants.{Start, Tick, Report, Deliver, ShareTimeout, ResendTimeout, Command, Ack, Query, Down, Up}
 use Rattle.site.specs.declared.Site.{Site}
@@ -16,12 +16,14 @@ use Rattle.site.specs.declared.Answer.{Answer}
 use Rattle.site.specs.declared.Answer.the-variants.{Done, Refused}
 use Rattle.site.specs.declared.Out.{Out}
 use Rattle.site.specs.Site.{nodes}
-use Rattle.site.specs.Steps.{effectOf, stepped}
+use Rattle.effects.specs.Effects.{effectOf}
+use Rattle.stepping.specs.Steps.{stepped}
 use Rattle.lent.specs.Lent.{recordOf, outOf, firstRecords, tableAfterAnswer, tableAfter}
 use Rattle.steps.specs.Actor.{actor}
 use Rattle.lent.specs.InTurn.{indexOf, outAt, beginsOf, compromisedOf}
 use Rattle.lent.specs.LentLaws.{begun-none, begins-within}
-use Rattle.site.specs.StepLaws.{by-tests, isDone, effect-done}
+use Rattle.stepping.specs.StepLaws.{by-tests, effect-done}
+use Rattle.site.specs.Answers.{isDone}
 
 record-at : (named : Option ℕ) (records : List Node) → getD records (indexOf named (length records)) wentDown ≡ recordOf named records
 record-at none records = List·getD-eq-default records wentDown (omega arith)

@@ -8,8 +8,8 @@ use steps::Step;
 ghost use mathlib.Core.Path.{_≡_};
 ghost use Prim.Native.Nat.{_<_, _≤_};
 ghost use lib.ListN.{length, getD, set};
-ghost use Rattle.node.specs.Events.{wentDown};
-ghost use Rattle.site.specs.Effects.{firstRecord};
+ghost use Rattle.events.specs.Events.{wentDown};
+ghost use Rattle.effects.specs.Effects.{firstRecord};
 ghost use Rattle.lent.specs.Lent.{firstRecords, outOf, tableAfter};
 ghost use Rattle.steps.specs.Actor.{actor};
 ghost use Rattle.lent.specs.InTurn.{indexOf, startsOf, beginsOf, compromisedOf, outAt};
@@ -85,7 +85,7 @@ fn fresh(compromised: u16, i: usize) -> Node
     requires { ⌜ i < 12 ⌝ }
     ensures { λ out. ⌜ out ≡ firstRecord compromised i ⌝ }
 {
-    site::stepping::first_record(compromised, i as u8)
+    effects::first_record(compromised, i as u8)
 }
 
 // The record at i; where there is none, that of a node that is down.
@@ -93,7 +93,7 @@ fn record_at(nodes: &mut [Node], i: usize) -> Node
     ensures { λ out. ⌜ (out ≡ getD (now (nodes .entry)) i wentDown) × (now (nodes .exit) ≡ now (nodes .entry)) ⌝ }
 {
     if nodes.len() <= i {
-        return node::events::down();
+        return events::down();
     }
     nodes[i]
 }
@@ -113,7 +113,7 @@ fn act(nodes: &mut [Node], site: Site, i: usize, step: Step) -> Told
     ensures { λ out. ⌜ (out .answer ≡ outAt site (now (nodes .entry)) i step .answer) × ((out .site ≡ outAt site (now (nodes .entry)) i step .site) × (now (nodes .exit) ≡ set (now (nodes .entry)) i (outAt site (now (nodes .entry)) i step .node))) ⌝ }
 {
     let node = record_at(nodes, i);
-    let out = site::stepping::step(site, nodes.len(), node, step);
+    let out = stepping::step(site, nodes.len(), node, step);
     write_at(nodes, i, out.node);
     Told {
         answer: out.answer,

@@ -1,7 +1,3 @@
--- A node: its state, what is asked of it, what each event makes of it, and the combining rule.
+-- A node: its state, and what is asked of it.
 pub mod State
 pub mod Asked
-pub mod Combining
-pub mod Events
-pub mod EventLaws
-pub mod CombiningLaws

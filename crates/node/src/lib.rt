@@ -1,7 +1,5 @@
-// A relay node by value: what it knows, its state, and what each event makes of it. Which events it is given is the site's to decide.
+// A relay node by value: what it knows, its state, and what is asked of it.
 pub mod asked;
-pub mod combining;
-pub mod events;
 
 use pairs::Known;
 use pairs::Pair;

@@ -23,8 +23,7 @@ use Rattle.node.specs.Asked.{isDown, isStarting, isRunning, isNew, inAttempt, a
 use Rattle.breaker.specs.Breaker.{changesSound, breakerSound}
 use Rattle.site.specs.declared.Site.{Site}
 use Rattle.site.specs.Site.{nodes, n, g, setsSound, siteSound, actorSound}
-use Rattle.site.specs.Tests.{isNow, isStatus, isNode, counted, verdict, canDeliver, startTests}
-use Rattle.site.specs.Steps.{testsOf}
+use Rattle.refusing.specs.Tests.{isNow, isStatus, isNode, counted, verdict, canDeliver, startTests, testsOf}
 use Rattle.rows.specs.Exactly.{Condition, NoneBefore, None, Tells, Tell, nothing, also, exactly, exactly-done, at-most}
 use Rattle.rows.specs.Named.{start, tick, report, deliver, shareTimeout, resendTimeout, command, ack, query, down, up, Beginning, named, isKind, phaseTakes}
 use Rattle.rows.specs.Outsiders.{outsider}

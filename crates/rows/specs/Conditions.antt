@@ -16,7 +16,7 @@ use Rattle.node.specs.Asked.{isNew, inAttempt, armed, nodeSound}
 use Rattle.breaker.specs.Breaker.{changesSound}
 use Rattle.site.specs.declared.Site.{Site}
 use Rattle.site.specs.Site.{nodes, n, g}
-use Rattle.site.specs.Tests.{counted}
+use Rattle.refusing.specs.Tests.{counted}
 use Rattle.rows.specs.Exactly.{Row}
 use Rattle.rows.specs.Named.{start, tick, shareTimeout, resendTimeout, command, down, named, Of, phaseTakes}
 use Rattle.rows.specs.Outsiders.{Outsider}

@@ -10,9 +10,11 @@ use Rattle.steps.specs.declared.Step.{Step}
 use Rattle.steps.specs.declared.Step.the-variants.{Start, Tick, Report, Deliver, ShareTimeout, ResendTimeout, Command, Ack, Query, Down, Up}
 use Rattle.node.specs.declared.Node.{Node}
 use Rattle.site.specs.declared.Site.{Site}
-use Rattle.site.specs.Effects.{numberOf, refused}
-use Rattle.site.specs.Steps.{testsOf, effectOf, stepped}
-use Rattle.site.specs.StepLaws.{effect-done, done-number}
+use Rattle.site.specs.Answers.{numberOf, refused, done-number}
+use Rattle.refusing.specs.Tests.{testsOf}
+use Rattle.effects.specs.Effects.{effectOf}
+use Rattle.stepping.specs.Steps.{stepped}
+use Rattle.stepping.specs.StepLaws.{effect-done}
 
 -- no test has the number 0
 tests-numbered : (site : Site) (lent : ℕ) (node : Node) (step : Step) → numbered (testsOf site lent node step) ≡ true

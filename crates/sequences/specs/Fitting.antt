@@ -25,9 +25,9 @@ use Rattle.node.specs.declared.Record.{Record}
 use Rattle.node.specs.declared.Phase.{Phase}
 use Rattle.node.specs.declared.Phase.the-variants.{Starting, Running, Down as NotUp}
 use Rattle.node.specs.declared.Acted.{Acted}
-use Rattle.node.specs.Combining.{putAll, combined, finished}
-use Rattle.node.specs.CombiningLaws.{Quiet, combined-quiet, combined-r}
-use Rattle.node.specs.Events.{begun}
+use Rattle.combining.specs.Combining.{putAll, combined, finished}
+use Rattle.combining.specs.CombiningLaws.{Quiet, combined-quiet, combined-r}
+use Rattle.events.specs.Events.{begun}
 use Rattle.node.specs.declared.Resend.the-variants.{Off}
 use Rattle.steps.specs.declared.Step.{Step}
 use Rattle.steps.specs.declared.Step.the-variants.{Deliver}

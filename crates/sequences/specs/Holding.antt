@@ -16,7 +16,7 @@ use Rattle.pairs.specs.declared.Pair.{Pair}
 use Rattle.pairs.specs.declared.Pairs.{Pairs}
 use Rattle.pairs.specs.declared.Pairs.the-variants.{Zero, One, Two}
 use Rattle.pairs.specs.Pair.{listed, has}
-use Rattle.node.specs.Combining.{putAll}
+use Rattle.combining.specs.Combining.{putAll}
 
 -- ---- lists of shares
 

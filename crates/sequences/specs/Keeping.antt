@@ -23,8 +23,8 @@ use Rattle.node.specs.declared.Phase.the-variants.{Starting, Running, Down as N
 use Rattle.node.specs.declared.Node.{Node}
 use Rattle.node.specs.State.{attempts}
 use Rattle.node.specs.Asked.{isDown, isStarting, isRunning}
-use Rattle.node.specs.Combining.{putAll, finished}
-use Rattle.node.specs.Events.{reportShares, reportRunning, reported, delivered, shareTimedOut, resendTimedOut, laterThan, ackRunning, acked, queried, wentDown, wentUp}
+use Rattle.combining.specs.Combining.{putAll, finished}
+use Rattle.events.specs.Events.{reportShares, reportRunning, reported, delivered, shareTimedOut, resendTimedOut, laterThan, ackRunning, acked, queried, wentDown, wentUp}
 use Rattle.steps.specs.declared.Step.the-variants.{Report, Deliver, ShareTimeout, ResendTimeout, Ack, Query, Down, Up}
 use Rattle.site.specs.declared.Sent.{Sent}
 use Rattle.sequences.specs.History.{Accepted, runs}

@@ -17,13 +17,13 @@ use Rattle.pairs.specs.declared.Pairs.the-variants.{Zero}
 use Rattle.pairs.specs.Pair.{listed, has}
 use Rattle.node.specs.declared.Node.{Node}
 use Rattle.node.specs.declared.Acted.{Acted}
-use Rattle.node.specs.Combining.{putAll, finished}
-use Rattle.node.specs.Events.{wentDown}
+use Rattle.combining.specs.Combining.{putAll, finished}
+use Rattle.events.specs.Events.{wentDown}
 use Rattle.steps.specs.declared.Step.{Step}
 use Rattle.site.specs.declared.Site.{Site}
 use Rattle.site.specs.declared.Sent.{Sent}
 use Rattle.site.specs.Site.{nodes}
-use Rattle.site.specs.Effects.{withMade}
+use Rattle.effects.specs.Effects.{withMade}
 use Rattle.rows.specs.Named.{Beginning, named, Of}
 use Rattle.sequences.specs.History.{Accepted, isAt, atNode, lastReport}
 use Rattle.sequences.specs.Demand.{Correct, Earlier, here, further, Shared}

@@ -7,12 +7,12 @@ use lib.ListN.{getD}
 use Rattle.time.specs.declared.Dts.{Dts}
 use Rattle.store.specs.Held.{held}
 use Rattle.node.specs.declared.Node.{Node}
-use Rattle.node.specs.Events.{wentDown}
+use Rattle.events.specs.Events.{wentDown}
 use Rattle.steps.specs.declared.Step.{Step}
 use Rattle.site.specs.declared.Site.{Site}
 use Rattle.site.specs.declared.Answer.{Answer}
 use Rattle.lent.specs.Lent.{outOf, tableAfter}
-use Rattle.site.specs.StepLaws.{isDone}
+use Rattle.site.specs.Answers.{isDone}
 use Rattle.sequences.specs.History.{Entry}
 
 pub record Moment : Type 0 where

@@ -16,7 +16,7 @@ use Rattle.breaker.specs.declared.Breaker.{Breaker}
 use Rattle.breaker.specs.Breaker.{breakerSound, changeAt, pairAt, mostChanges}
 use Rattle.site.specs.declared.Site.{Site}
 use Rattle.site.specs.Site.{n, g, mostF, mostK, firstG, lastG, numbersSound, setsSound, siteSound, actorSound}
-use Rattle.site.specs.Tests.{isNow, isNode}
+use Rattle.refusing.specs.Tests.{isNow, isNode}
 use Rattle.sequences.specs.Fitting.{latestClock}
 
 pub left : (a b : Bool) → (a && b) ≡ true → a ≡ true

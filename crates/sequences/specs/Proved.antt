@@ -28,9 +28,8 @@ use Rattle.node.specs.State.{attempts}
 use Rattle.node.specs.Asked.{isRunning}
 use Rattle.steps.specs.declared.Step.the-variants.{Command}
 use Rattle.site.specs.Site.{nodes}
-use Rattle.site.specs.Tests.{commandTests}
-use Rattle.site.specs.CommandLaws.{shared-by-one, stamp-above}
-use Rattle.site.specs.Steps.{testsOf}
+use Rattle.refusing.specs.Tests.{commandTests, testsOf}
+use Rattle.refusing.specs.CommandLaws.{shared-by-one, stamp-above}
 use Rattle.rows.specs.Named.{report, ack, query}
 use Rattle.sequences.specs.History.{Accepted, accepted, atNode, clock, life, oneOf, runs, deliveries, freshAtClock}
 use Rattle.sequences.specs.Moments.{nodeAt, holds}

@@ -18,21 +18,20 @@ use Rattle.store.specs.Store.{movedTo}
 use Rattle.store.specs.Held.{held-empty, held-moved}
 use Rattle.node.specs.declared.Node.{Node}
 use Rattle.pairs.specs.declared.Known.{Known}
-use Rattle.node.specs.Combining.{putAll, finished}
-use Rattle.node.specs.Events.{reported, delivered, shareTimedOut, resendTimedOut, acked, queried, wentDown, wentUp}
+use Rattle.combining.specs.Combining.{putAll, finished}
+use Rattle.events.specs.Events.{reported, delivered, shareTimedOut, resendTimedOut, acked, queried, wentDown, wentUp}
 use Rattle.steps.specs.declared.Step.{Step}
 use Rattle.steps.specs.declared.Step.the-variants.{Start, Tick, Report, Deliver, ShareTimeout, ResendTimeout, Command, Ack, Query, Down, Up}
 use Rattle.breaker.specs.Breaker.{pairAt}
 use Rattle.site.specs.declared.Site.{Site}
 use Rattle.site.specs.declared.Out.{Out}
 use Rattle.site.specs.Site.{nodes, g}
-use Rattle.site.specs.Tests.{isNode, isStatus, startTests}
-use Rattle.site.specs.Effects.{silence, withMade, startedSite, firstRecord, ticked, act, ackedKnown, commanded}
-use Rattle.site.specs.Steps.{testsOf, effectOf}
-use Rattle.lent.specs.Lent.{recordOf, outOf, firstRecords, tableAfter}
+use Rattle.refusing.specs.Tests.{isNode, isStatus, startTests, testsOf}
+use Rattle.site.specs.Answers.{silence}
+use Rattle.effects.specs.Effects.{withMade, startedSite, firstRecord, ticked, act, ackedKnown, commanded, effectOf}
+use Rattle.lent.specs.Lent.{recordOf, outOf, firstRecords, tableAfter, tableAfterAnswer}
 use Rattle.steps.specs.Actor.{actor}
-use Rattle.lent.specs.Lent.{tableAfterAnswer}
-use Rattle.site.specs.StepLaws.{by-tests}
+use Rattle.stepping.specs.StepLaws.{by-tests}
 use Rattle.rows.specs.Named.{Beginning}
 use Rattle.sequences.specs.History.{Entry, lastStart, accepted, atNode}
 use Rattle.sequences.specs.Moments.{Moment, Reached, from, then}

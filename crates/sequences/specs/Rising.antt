@@ -18,13 +18,12 @@ use Rattle.steps.specs.declared.Step.the-variants.{Start, Tick, Report, Deliver
 use Rattle.breaker.specs.Breaker.{larger, changed}
 use Rattle.site.specs.declared.Site.{Site}
 use Rattle.site.specs.declared.Out.{Out}
-use Rattle.site.specs.Tests.{commandTests}
-use Rattle.site.specs.CommandLaws.{stamp-above}
-use Rattle.site.specs.Effects.{ticked, act, commanded}
-use Rattle.site.specs.Steps.{testsOf, effectOf}
+use Rattle.refusing.specs.Tests.{commandTests, testsOf}
+use Rattle.refusing.specs.CommandLaws.{stamp-above}
+use Rattle.effects.specs.Effects.{ticked, act, commanded, effectOf}
 use Rattle.lent.specs.Lent.{recordOf, outOf}
 use Rattle.steps.specs.Actor.{actor}
-use Rattle.site.specs.StepLaws.{by-tests}
+use Rattle.stepping.specs.StepLaws.{by-tests}
 use Rattle.rows.specs.Named.{StepKind, command, isKind, named, Of}
 use Rattle.sequences.specs.History.{Entry, Accepted, accepted}
 use Rattle.sequences.specs.Moments.{Moment, Reached, from, then}

@@ -26,9 +26,9 @@ use Rattle.node.specs.declared.Phase.{Phase}
 use Rattle.node.specs.declared.Phase.the-variants.{Starting, Running, Down as NotUp}
 use Rattle.node.specs.declared.Node.{Node}
 use Rattle.node.specs.declared.Acted.{Acted}
-use Rattle.node.specs.Combining.{combined, followed, finished}
-use Rattle.node.specs.CombiningLaws.{combined-b}
-use Rattle.node.specs.Events.{reported, reportRunning, delivered, shareTimedOut, again, resendTimedOut, ackRunning, acked, queried, wentDown, wentUp}
+use Rattle.combining.specs.Combining.{combined, followed, finished}
+use Rattle.combining.specs.CombiningLaws.{combined-b}
+use Rattle.events.specs.Events.{reported, reportRunning, delivered, shareTimedOut, again, resendTimedOut, ackRunning, acked, queried, wentDown, wentUp}
 use Rattle.steps.specs.declared.Step.{Step}
 use Rattle.steps.specs.declared.Step.the-variants.{Start, Tick, Report, Deliver, ShareTimeout, ResendTimeout, Command, Ack, Query, Down, Up}
 use Rattle.breaker.specs.Breaker.{changeAt, pairAt}
@@ -37,14 +37,13 @@ use Rattle.site.specs.declared.Sent.{Sent}
 use Rattle.site.specs.declared.Answer.{Answer}
 use Rattle.site.specs.declared.Answer.the-variants.{Done, Refused}
 use Rattle.site.specs.declared.Out.{Out}
-use Rattle.site.specs.Tests.{isNode, isStatus}
-use Rattle.site.specs.Effects.{silence, act, ackedKnown}
-use Rattle.site.specs.Steps.{testsOf, effectOf}
-use Rattle.lent.specs.Lent.{recordOf, outOf, tableAfter}
+use Rattle.refusing.specs.Tests.{isNode, isStatus, testsOf}
+use Rattle.site.specs.Answers.{silence}
+use Rattle.effects.specs.Effects.{act, ackedKnown, effectOf}
+use Rattle.lent.specs.Lent.{recordOf, outOf, tableAfter, tableAfterAnswer}
 use Rattle.steps.specs.Actor.{actor}
-use Rattle.lent.specs.Lent.{tableAfterAnswer}
 use Rattle.lent.specs.LentLaws.{named-within}
-use Rattle.site.specs.StepLaws.{by-tests}
+use Rattle.stepping.specs.StepLaws.{by-tests}
 use Rattle.rows.specs.Named.{named, Of}
 use Rattle.sequences.specs.Demand.{Always, MovedBySending}
 use Rattle.sequences.specs.Passing.{taken, Placed, remembered-change}

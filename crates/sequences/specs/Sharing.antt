@@ -18,8 +18,8 @@ use Rattle.node.specs.declared.Phase.the-variants.{Starting, Running, Down as N
 use Rattle.node.specs.declared.Node.{Node}
 use Rattle.node.specs.declared.Acted.{Acted}
 use Rattle.node.specs.State.{attempts}
-use Rattle.node.specs.Combining.{finished, finishedPhase}
-use Rattle.node.specs.Events.{begun, reportShares, reportRunning, reported, delivered, shareTimedOut, resendTimedOut, ackRunning, acked, queried}
+use Rattle.combining.specs.Combining.{finished, finishedPhase}
+use Rattle.events.specs.Events.{begun, reportShares, reportRunning, reported, delivered, shareTimedOut, resendTimedOut, ackRunning, acked, queried}
 use Rattle.sequences.specs.History.{Accepted, lastReport}
 use Rattle.sequences.specs.Fitting.{latestClock, Fits}
 use Rattle.sequences.specs.Keeping.{next-after}

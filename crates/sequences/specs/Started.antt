@@ -12,12 +12,12 @@ use Rattle.steps.specs.declared.Step.{Step}
 use Rattle.steps.specs.declared.Step.the-variants.{Start, Tick, Report, Deliver, ShareTimeout, ResendTimeout, Command, Ack, Query, Down, Up}
 use Rattle.site.specs.declared.Site.{Site}
 use Rattle.site.specs.declared.Out.{Out}
-use Rattle.site.specs.Tests.{commandTests}
-use Rattle.site.specs.Effects.{ticked, act, commanded}
-use Rattle.site.specs.Steps.{testsOf, effectOf}
+use Rattle.refusing.specs.Tests.{commandTests, testsOf}
+use Rattle.effects.specs.Effects.{ticked, act, commanded, effectOf}
 use Rattle.lent.specs.Lent.{recordOf, outOf}
 use Rattle.steps.specs.Actor.{actor}
-use Rattle.site.specs.StepLaws.{isDone, by-tests}
+use Rattle.site.specs.Answers.{isDone}
+use Rattle.stepping.specs.StepLaws.{by-tests}
 use Rattle.rows.specs.Named.{Beginning}
 use Rattle.sequences.specs.History.{Entry, lastStart}
 use Rattle.sequences.specs.Moments.{Moment, Reached, from, then, Accepts}

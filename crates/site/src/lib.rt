@@ -1,8 +1,6 @@
-// The site: the breaker, what is kept of the nodes, and every step. A step takes the site, the number of records that the caller lends and
-// the record of the acting node, all by value, and hands site and record back with its answer.
-pub mod refusing;
+// The site: the breaker and what is kept of the nodes, and what a step answers. A step takes the site, the number of records that the caller
+// lends and the record of the acting node, all by value, and hands site and record back with its answer.
 pub mod sound;
-pub mod stepping;
 
 use breaker::Breaker;
 use node::Node;

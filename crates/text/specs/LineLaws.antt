@@ -18,7 +18,7 @@ use Rattle.site.specs.declared.Site.{Site}
 use Rattle.site.specs.declared.Sent.{Sent}
 use Rattle.site.specs.declared.Answer.{Answer}
 use Rattle.site.specs.declared.Answer.the-variants.{Done, Refused}
-use Rattle.site.specs.Effects.{Message, Share, Command, Ack, numberOf, messagesOf}
+use Rattle.site.specs.Answers.{Message, Share, Command, Ack, numberOf, messagesOf}
 use Rattle.text.specs.Puts.{Puts, then, set-front}
 use Rattle.text.specs.Decimal.{decimal, length-decimal}
 use Rattle.text.specs.Line.{pairText, messageText, afterCommas, tailText, shownStatus, shownStamp, lineOf}

@@ -11,7 +11,7 @@ ghost use mathlib.Core.Path.{_≡_};
 ghost use mathlib.Core.List.{[], _∷_, _++_, map};
 ghost use lib.ListN.{length};
 ghost use Rattle.pairs.specs.Pair.{listed, listedKnown};
-ghost use Rattle.site.specs.Effects.{Message, numberOf, messagesOf};
+ghost use Rattle.site.specs.Answers.{Message, numberOf, messagesOf};
 ghost use Rattle.text.specs.Puts.{Puts};
 ghost use Rattle.text.specs.Decimal.{decimal};
 ghost use Rattle.text.specs.Line.{letter, pairText, afterCommas, tailText, shownStatus, shownStamp};

@@ -8,71 +8,54 @@ use Rattle.breaker.proofs.are_changes_sound.Reads as reads
 use Rattle.breaker.proofs.are_changes_sound.Lts as lts
 use Rattle.breaker.proofs.is_pair_sound.Reads as is-pair-sound-reads
 
--- src/lib.rt:105:31
 array-copy-out-is-pair-sound : tie.Need-array-copy-out-is-pair-sound
 array-copy-out-is-pair-sound c = search needs
 
--- src/lib.rt:105:17
 is-pair-sound-requires : tie.Need-is-pair-sound-requires
 is-pair-sound-requires c κs = search needs
 
--- src/lib.rt:105:53
 array-copy-out-is-pair-sound-2 : tie.Need-array-copy-out-is-pair-sound-2
 array-copy-out-is-pair-sound-2 c = search needs
 
--- src/lib.rt:105:39
 is-pair-sound-requires-2 : tie.Need-is-pair-sound-requires-2
 is-pair-sound-requires-2 c κs = search needs
 
--- src/lib.rt:105:75
 array-copy-out-is-pair-sound-3 : tie.Need-array-copy-out-is-pair-sound-3
 array-copy-out-is-pair-sound-3 c = search needs
 
--- src/lib.rt:105:61
 is-pair-sound-requires-3 : tie.Need-is-pair-sound-requires-3
 is-pair-sound-requires-3 c κs = search needs
 
--- src/lib.rt:105:97
 array-copy-out-is-pair-sound-4 : tie.Need-array-copy-out-is-pair-sound-4
 array-copy-out-is-pair-sound-4 c = search needs
 
--- src/lib.rt:105:83
 is-pair-sound-requires-4 : tie.Need-is-pair-sound-requires-4
 is-pair-sound-requires-4 c κs = search needs
 
--- src/lib.rt:106:31
 array-copy-out-is-pair-sound-5 : tie.Need-array-copy-out-is-pair-sound-5
 array-copy-out-is-pair-sound-5 c = search needs
 
--- src/lib.rt:106:17
 is-pair-sound-requires-5 : tie.Need-is-pair-sound-requires-5
 is-pair-sound-requires-5 c κs = search needs
 
--- src/lib.rt:106:53
 array-copy-out-is-pair-sound-6 : tie.Need-array-copy-out-is-pair-sound-6
 array-copy-out-is-pair-sound-6 c = search needs
 
--- src/lib.rt:106:39
 is-pair-sound-requires-6 : tie.Need-is-pair-sound-requires-6
 is-pair-sound-requires-6 c κs = search needs
 
--- src/lib.rt:106:75
 array-copy-out-is-pair-sound-7 : tie.Need-array-copy-out-is-pair-sound-7
 array-copy-out-is-pair-sound-7 c = search needs
 
--- src/lib.rt:106:61
 is-pair-sound-requires-7 : tie.Need-is-pair-sound-requires-7
 is-pair-sound-requires-7 c κs = search needs
 
--- src/lib.rt:106:97
 array-copy-out-is-pair-sound-8 : tie.Need-array-copy-out-is-pair-sound-8
 array-copy-out-is-pair-sound-8 c = search needs
 
--- src/lib.rt:106:83
 is-pair-sound-requires-8 : tie.Need-is-pair-sound-requires-8
 is-pair-sound-requires-8 c κs = search needs
 
--- src/lib.rt:101:1
 returns : tie.Need-returns
 unfolding changesSound table
 returns c =

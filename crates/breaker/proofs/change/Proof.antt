@@ -7,15 +7,12 @@ use Rattle.breaker.proofs.change.Lts as lts
 use Rattle.breaker.proofs.larger.Reads as larger-reads
 use Rattle.breaker.proofs.remember.Reads as remember-reads
 
--- src/lib.rt:69:16
 larger-requires : tie.Need-larger-requires
 larger-requires c κs = search needs
 
--- src/lib.rt:72:9
 remember-requires : tie.Need-remember-requires
 remember-requires c κs = search needs
 
--- src/lib.rt:64:1
 returns : tie.Need-returns
 unfolding changed
 returns c = simp (c .remember .ensures, c .before .before .larger .ensures)

@@ -6,25 +6,20 @@ use Rattle.breaker.proofs.change_at.Tie as tie
 use Rattle.breaker.proofs.change_at.Reads as reads
 use Rattle.breaker.proofs.change_at.Lts as lts
 
--- src/lib.rt:86:9
 returns : tie.Need-returns
 unfolding changeAt
 returns c = simp (le-ltb _ _ (c .if1 .taken))
 
--- src/lib.rt:89:9
 returns-2 : tie.Need-returns-2
 unfolding changeAt
 returns-2 c = simp (lt-ltb _ _ (c .before .if1 .left), le-ltb _ _ (c .if2 .taken))
 
--- src/lib.rt:92:16
 mul-t6 : tie.Need-mul-t6
 mul-t6 c = search needs
 
--- src/lib.rt:92:16
 array-copy-out-t9 : tie.Need-array-copy-out-t9
 array-copy-out-t9 c = search needs
 
--- src/lib.rt:81:1
 returns-3 : tie.Need-returns-3
 unfolding changeAt
 returns-3 c = simp (lt-ltb _ _ (c .before .before .if1 .left), lt-ltb _ _ (c .before .if2 .left))

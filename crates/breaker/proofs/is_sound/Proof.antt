@@ -7,15 +7,12 @@ use Rattle.breaker.proofs.is_sound.Lts as lts
 use Rattle.breaker.proofs.are_changes_sound.Reads as are-changes-sound-reads
 use Rattle.breaker.proofs.is_pair_sound.Reads as is-pair-sound-reads
 
--- src/lib.rt:114:9
 is-pair-sound-requires : tie.Need-is-pair-sound-requires
 is-pair-sound-requires c κs = search needs
 
--- src/lib.rt:116:9
 are-changes-sound-requires : tie.Need-are-changes-sound-requires
 are-changes-sound-requires c κs = search needs
 
--- src/lib.rt:111:1
 returns : tie.Need-returns
 unfolding breakerSound
 returns c = simp (c .before .before .before .is-pair-sound .ensures, c .before .are-changes-sound .ensures)

@@ -4,11 +4,9 @@ use Rattle.breaker.proofs.larger.Tie as tie
 use Rattle.breaker.proofs.larger.Reads as reads
 use Rattle.breaker.proofs.larger.Lts as lts
 
--- src/lib.rt:41:1
 returns : tie.Need-returns
 returns c = simp (le-leb _ _ (c .if1 .taken))
 
--- src/lib.rt:41:1
 returns-2 : tie.Need-returns-2
 returns-2 c = simp (lt-leb _ _ (c .if1 .left))
 

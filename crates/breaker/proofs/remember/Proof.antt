@@ -7,44 +7,34 @@ use Rattle.breaker.proofs.remember.Tie as tie
 use Rattle.breaker.proofs.remember.Reads as reads
 use Rattle.breaker.proofs.remember.Lts as lts
 
--- src/lib.rt:58:23
 array-copy-out-t9 : tie.Need-array-copy-out-t9
 array-copy-out-t9 c = search needs
 
--- src/lib.rt:58:29
 array-copy-out-t12 : tie.Need-array-copy-out-t12
 array-copy-out-t12 c = search needs
 
--- src/lib.rt:58:35
 array-copy-out-t15 : tie.Need-array-copy-out-t15
 array-copy-out-t15 c = search needs
 
--- src/lib.rt:58:41
 array-copy-out-t18 : tie.Need-array-copy-out-t18
 array-copy-out-t18 c = search needs
 
--- src/lib.rt:58:47
 array-copy-out-t21 : tie.Need-array-copy-out-t21
 array-copy-out-t21 c = search needs
 
--- src/lib.rt:58:53
 array-copy-out-t24 : tie.Need-array-copy-out-t24
 array-copy-out-t24 c = search needs
 
--- src/lib.rt:58:59
 array-copy-out-t27 : tie.Need-array-copy-out-t27
 array-copy-out-t27 c = search needs
 
--- src/lib.rt:59:31
 add-t32 : tie.Need-add-t32
 add-t32 c = search needs
 
--- src/lib.rt:52:1
 returns : tie.Need-returns
 unfolding remembered table
 returns c = simp (lt-ltb _ _ (c .if1 .taken))
 
--- src/lib.rt:52:1
 returns-2 : tie.Need-returns-2
 unfolding remembered table
 returns-2 c = simp (le-ltb _ _ (c .if1 .left))

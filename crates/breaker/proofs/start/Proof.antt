@@ -6,7 +6,6 @@ use Rattle.breaker.proofs.start.Tie as tie
 use Rattle.breaker.proofs.start.Reads as reads
 use Rattle.breaker.proofs.start.Lts as lts
 
--- src/lib.rt:22:1
 returns : tie.Need-returns
 unfolding started table
 returns c = refl

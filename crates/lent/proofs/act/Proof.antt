@@ -40,11 +40,11 @@ use denote.Triple.Table.{entered, cited}
 use denote.Triple.Walked.{says, Stays, stay-slice, stay-none, walkOf, goes-slice, goes-none, Walks, ends-at, walked, walk-meets}
 use denote.Exit.{yes}
 use Rattle.node.specs.declared.Node.{Node}
-use Rattle.node.specs.Events.{wentDown}
+use Rattle.events.specs.Events.{wentDown}
 use Rattle.steps.specs.declared.Step.{Step}
 use Rattle.site.specs.declared.Site.{Site}
 use Rattle.site.specs.declared.Out.{Out}
-use Rattle.site.specs.Steps.{stepped}
+use Rattle.stepping.specs.Steps.{stepped}
 use Rattle.lent.specs.declared.Told.{Told}
 use Rattle.lent.specs.InTurn.{outAt}
 use Rattle.lent.specs.TurnLaws.{Acted}
@@ -72,10 +72,10 @@ use Rattle.lent.proofs.write_at as write-at
 use Rattle.lent.proofs.write_at.Symbol as write-at-def
 use Rattle.lent.proofs.write_at.Symbol.{name as #write-at}
 use Rattle.lent.proofs.write_at.Met as write-at-thm
-use Rattle.site.proofs.stepping.step as step
-use Rattle.site.proofs.stepping.step.Symbol as step-def
-use Rattle.site.proofs.stepping.step.Symbol.{name as #step}
-use Rattle.site.proofs.stepping.step.Met as step-thm
+use Rattle.stepping.proofs.step as step
+use Rattle.stepping.proofs.step.Symbol as step-def
+use Rattle.stepping.proofs.step.Symbol.{name as #step}
+use Rattle.stepping.proofs.step.Met as step-thm
 use Rattle.lent.proofs.act.Key.{name as #f}
 use Rattle.lent.proofs.act as f
 use Rattle.lent.proofs.act.Statement as stated
@@ -209,5 +209,5 @@ act-spec 𝓤 H 𝓜 𝓖 𝓡 =
     (tables 𝓤 H 𝓜 𝓡 code.env .C) (tables 𝓤 H 𝓜 𝓡 code.env .Λ) #f code.function (code.unfolded 𝓤 H 𝓜 𝓡)
     (meets 𝓤 H (𝓖 .A) (givenOf 𝓤 H 𝓜 𝓖) (𝓜 .mem) (𝓡 .run) (tablesOf 𝓤 H 𝓜 (tables 𝓤 H 𝓜 𝓡 code.env))
     (cited 𝓤 H (RecordAt 𝓤 H (𝓖 .A) (𝓜 .mem) (𝓡 .run)) 𝓜 𝓡 code.env #record-at record-at-def.routine code.calls-lent·record-at (record-at-thm.met 𝓤 H 𝓜 𝓖 𝓡))
-    (cited 𝓤 H (Stepping 𝓤 H (𝓖 .A) (𝓜 .mem) (𝓡 .run)) 𝓜 𝓡 code.env #step step-def.routine code.calls-site·stepping·step (step-thm.met 𝓤 H 𝓜 𝓖 𝓡))
+    (cited 𝓤 H (Stepping 𝓤 H (𝓖 .A) (𝓜 .mem) (𝓡 .run)) 𝓜 𝓡 code.env #step step-def.routine code.calls-stepping·step (step-thm.met 𝓤 H 𝓜 𝓖 𝓡))
     (cited 𝓤 H (WriteAt 𝓤 H (𝓖 .A) (𝓜 .mem) (𝓡 .run)) 𝓜 𝓡 code.env #write-at write-at-def.routine code.calls-lent·write-at (write-at-thm.met 𝓤 H 𝓜 𝓖 𝓡)))

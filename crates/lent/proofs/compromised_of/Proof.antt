@@ -3,15 +3,12 @@ use Rattle.lent.proofs.Others.{no-start}
 use Rattle.lent.proofs.compromised_of.Statement.{statement}
 use Rattle.lent.proofs.compromised_of.Tie as tie
 
--- src/lib.rt:97:13
 enum-known-step : tie.Need-enum-known-step
 enum-known-step c = search needs
 
--- src/lib.rt:90:1
 returns : tie.Need-returns
 returns c = simp (c .before .step .given .1)
 
--- src/lib.rt:90:1
 returns-2 : tie.Need-returns-2
 returns-2 c = no-start (c .before .args .step) (c .match .keys2) .1
 

@@ -40,8 +40,8 @@ use denote.Triple.Table.{entered, cited}
 use denote.Triple.Walked.{says, needs, Stays, stay-slice, stay-none, walkOf, goes-slice, goes-none, Walks, ends-at, walked, walk-meets}
 use denote.Exit.{yes}
 use Rattle.node.specs.declared.Node.{Node}
-use Rattle.node.specs.Events.{wentDown}
-use Rattle.site.specs.Effects.{firstRecord}
+use Rattle.events.specs.Events.{wentDown}
+use Rattle.effects.specs.Effects.{firstRecord}
 use Rattle.lent.specs.Lent.{firstRecords}
 use Rattle.lent.specs.LentLaws.{begun-none, begun-more, begun-length}
 use Rattle.lent.proofs.Walk.{var, sets, lands, aims, stores, clears, bumps, locals, whiles, ends}

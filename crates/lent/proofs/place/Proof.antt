@@ -11,27 +11,21 @@ use Rattle.lent.proofs.place.Lts as lts
 use Rattle.lent.proofs.index.Reads as index-reads
 use Rattle.steps.proofs.actor_of.Reads as actor-of-reads
 
--- src/lib.rt:33:9
 actor-of-requires : tie.Need-actor-of-requires
 actor-of-requires c κs = search needs
 
--- src/lib.rt:35:21
 enum-known-actor : tie.Need-enum-known-actor
 enum-known-actor c = search needs
 
--- src/lib.rt:35:27
 index-requires : tie.Need-index-requires
 index-requires c κs = search needs
 
--- src/lib.rt:36:26
 enum-told : tie.Need-enum-told
 enum-told c = search needs
 
--- src/lib.rt:30:1
 returns : tie.Need-returns
 returns c = c .index .ensures ∙ sym (ap (λ (o : Option ℕ). indexOf o (c .before .before .before .before .before .args .len)) (is-node (actor (c .before .before .before .before .before .args .step)) _ (sym (c .before .before .before .before .actor-of .ensures) ∙ c .before .before .actor .given .1)))
 
--- src/lib.rt:30:1
 returns-2 : tie.Need-returns-2
 returns-2 c = sym (ap (λ (o : Option ℕ). indexOf o (c .before .before .before .args .len)) (is-nobody (actor (c .before .before .before .args .step)) (sym (c .before .before .actor-of .ensures) ∙ c .enum-told .given .1)))
 

@@ -38,16 +38,16 @@ use denote.Triple.Table.{entered, cited}
 use denote.Triple.Walked.{says, Stays, stay-slice, stay-none, walkOf, goes-slice, goes-none, Walks, ends-at, walked, walk-meets}
 use denote.Exit.{yes}
 use Rattle.node.specs.declared.Node.{Node}
-use Rattle.node.specs.Events.{wentDown}
+use Rattle.events.specs.Events.{wentDown}
 use Rattle.lent.proofs.Walk.{var, fvar, behind, sets, resets, lands, aims, guards, ends, ends-within}
 use Rattle.lent.proofs.Rows.{nodeVal, node-tells}
 use Rattle.lent.proofs.Slice.{at-list, Had, opening, closing, asks, calls-by}
 use Rattle.node.proofs.Node as T
 use Rattle.node.proofs.Node.Laws as T′
-use Rattle.node.proofs.events.down as down
-use Rattle.node.proofs.events.down.Symbol as down-def
-use Rattle.node.proofs.events.down.Symbol.{name as #down}
-use Rattle.node.proofs.events.down.Met as down-thm
+use Rattle.events.proofs.down as down
+use Rattle.events.proofs.down.Symbol as down-def
+use Rattle.events.proofs.down.Symbol.{name as #down}
+use Rattle.events.proofs.down.Met as down-thm
 use Rattle.lent.proofs.record_at.Key.{name as #f}
 use Rattle.lent.proofs.record_at as f
 use Rattle.lent.proofs.record_at.Statement as stated
@@ -126,4 +126,4 @@ record-at-spec 𝓤 H 𝓜 𝓖 𝓡 =
     entered 𝓤 H (tripleOf 𝓤 H (𝓖 .A) f.signature (f.spec 𝓤 H (𝓖 .A) (𝓜 .mem) (𝓡 .run)))
     (tables 𝓤 H 𝓜 𝓡 code.env .C) (tables 𝓤 H 𝓜 𝓡 code.env .Λ) #f code.function (code.unfolded 𝓤 H 𝓜 𝓡)
     (meets 𝓤 H (𝓖 .A) (givenOf 𝓤 H 𝓜 𝓖) (𝓜 .mem) (𝓡 .run) (tablesOf 𝓤 H 𝓜 (tables 𝓤 H 𝓜 𝓡 code.env))
-    (cited 𝓤 H (Down 𝓤 H (𝓖 .A) (𝓜 .mem) (𝓡 .run)) 𝓜 𝓡 code.env #down down-def.routine code.calls-node·events·down (down-thm.met 𝓤 H 𝓜 𝓖 𝓡)))
+    (cited 𝓤 H (Down 𝓤 H (𝓖 .A) (𝓜 .mem) (𝓡 .run)) 𝓜 𝓡 code.env #down down-def.routine code.calls-events·down (down-thm.met 𝓤 H 𝓜 𝓖 𝓡)))

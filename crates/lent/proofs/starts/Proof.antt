@@ -3,35 +3,27 @@ use Rattle.lent.proofs.Others.{no-start}
 use Rattle.lent.proofs.starts.Statement.{statement}
 use Rattle.lent.proofs.starts.Tie as tie
 
--- src/lib.rt:70:13
 enum-known-step : tie.Need-enum-known-step
 enum-known-step c = search needs
 
--- src/lib.rt:75:19
 cast-result : tie.Need-cast-result
 cast-result c = search needs
 
--- src/lib.rt:75:14
 mul-result : tie.Need-mul-result
 mul-result c = search needs
 
--- src/lib.rt:75:34
 cast-result-2 : tie.Need-cast-result-2
 cast-result-2 c = search needs
 
--- src/lib.rt:75:14
 add-result : tie.Need-add-result
 add-result c = search needs
 
--- src/lib.rt:75:14
 add-result-2 : tie.Need-add-result-2
 add-result-2 c = search needs
 
--- src/lib.rt:65:1
 returns : tie.Need-returns
 returns c = simp (c .before .step .given .1)
 
--- src/lib.rt:65:1
 returns-2 : tie.Need-returns-2
 returns-2 c = no-start (c .before .args .step) (c .match .keys2) .0
 

@@ -37,7 +37,7 @@ use denote.Triple.Table.{entered}
 use denote.Triple.Walked.{says, Stays, stay-slice, stay-none, walkOf, goes-slice, goes-none, Walks, ends-at, walked, walk-meets}
 use denote.Exit.{yes}
 use Rattle.node.specs.declared.Node.{Node}
-use Rattle.node.specs.Events.{wentDown}
+use Rattle.events.specs.Events.{wentDown}
 use Rattle.lent.proofs.Walk.{var, fvar, sets, resets, aims, stores, guards, ends, ends-within}
 use Rattle.lent.proofs.Rows.{nodeVal, node-tells}
 use Rattle.lent.proofs.Slice.{at-list, Had, opening, closing}

@@ -5,12 +5,10 @@ use Rattle.refusals.proofs.first.Tie as tie
 use Rattle.refusals.proofs.first.Reads as reads
 use Rattle.refusals.proofs.first.Lts as lts
 
--- src/lib.rt:18:1
 returns : tie.Need-returns
 unfolding orLater
 returns c = simp (eq-eqb _ _ (c .if1 .taken))
 
--- src/lib.rt:18:1
 returns-2 : tie.Need-returns-2
 unfolding orLater
 returns-2 c = simp (ne-eqb _ _ (c .if1 .left))

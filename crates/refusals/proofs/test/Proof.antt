@@ -4,12 +4,10 @@ use Rattle.refusals.proofs.test.Tie as tie
 use Rattle.refusals.proofs.test.Reads as reads
 use Rattle.refusals.proofs.test.Lts as lts
 
--- src/lib.rt:7:1
 returns : tie.Need-returns
 unfolding refusal
 returns c = simp (c .if1 .taken)
 
--- src/lib.rt:7:1
 returns-2 : tie.Need-returns-2
 unfolding refusal
 returns-2 c = simp (c .if1 .left)

@@ -10,22 +10,18 @@ use Rattle.senders.proofs.forget.Reads as reads
 use Rattle.senders.proofs.forget.Lts as lts
 use Rattle.senders.proofs.is_in.Reads as is-in-reads
 
--- src/lib.rt:32:9
 returns : tie.Need-returns
 unfolding without
 returns c =
     let a = c .before .args in
     simp (in-above (a .mask) (a .sender) (c .before .fits .mask .fits) (c .if1 .taken))
 
--- src/lib.rt:34:8
 is-in-requires : tie.Need-is-in-requires
 is-in-requires c κs = search needs
 
--- src/lib.rt:35:17
 shl-result : tie.Need-shl-result
 shl-result c = search needs
 
--- src/lib.rt:28:1
 returns-2 : tie.Need-returns-2
 unfolding without
 returns-2 c =
@@ -33,7 +29,6 @@ returns-2 c =
     simp (sym (c .before .is-in .ensures) ∙ c .if2 .taken)
     (ap (bitXor (a .mask)) (one-shl (a .sender) 16 (c .before .before .if1 .left)))
 
--- src/lib.rt:28:1
 returns-3 : tie.Need-returns-3
 unfolding without
 returns-3 c = simp (sym (c .before .is-in .ensures) ∙ c .if2 .left)

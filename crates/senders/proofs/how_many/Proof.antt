@@ -4,7 +4,6 @@ use Rattle.senders.proofs.how_many.Tie as tie
 use Rattle.senders.proofs.how_many.Reads as reads
 use Rattle.senders.proofs.how_many.Lts as lts
 
--- src/lib.rt:49:1
 returns : tie.Need-returns
 returns c = ones-size (c .args .mask) (c .fits .mask .fits)
 

@@ -8,11 +8,9 @@ use Rattle.senders.proofs.is_enough.Tie as tie
 use Rattle.senders.proofs.is_enough.Reads as reads
 use Rattle.senders.proofs.is_enough.Lts as lts
 
--- src/lib.rt:45:5
 add-result : tie.Need-add-result
 add-result c = search needs
 
--- src/lib.rt:42:1
 returns : tie.Need-returns
 returns c = ap (leb (c .args .f + 1)) (ones-size (c .args .mask) (c .fits .mask .fits))
 

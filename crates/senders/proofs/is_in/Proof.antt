@@ -7,15 +7,12 @@ use Rattle.senders.proofs.is_in.Tie as tie
 use Rattle.senders.proofs.is_in.Reads as reads
 use Rattle.senders.proofs.is_in.Lts as lts
 
--- src/lib.rt:12:9
 returns : tie.Need-returns
 returns c = sym (in-above (c .before .args .mask) (c .before .args .sender) (c .before .fits .mask .fits) (c .if1 .taken))
 
--- src/lib.rt:14:6
 shr-result : tie.Need-shr-result
 shr-result c = search needs
 
--- src/lib.rt:8:1
 returns-2 : tie.Need-returns-2
 unfolding isIn
 returns-2 c = refl

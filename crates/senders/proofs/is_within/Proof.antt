@@ -6,19 +6,15 @@ use Rattle.senders.proofs.is_within.Tie as tie
 use Rattle.senders.proofs.is_within.Reads as reads
 use Rattle.senders.proofs.is_within.Lts as lts
 
--- src/lib.rt:67:9
 returns : tie.Need-returns
 returns c = sym (room-within (c .before .args .mask) (c .before .args .n) (c .before .fits .mask .fits) (c .if1 .taken))
 
--- src/lib.rt:69:13
 cast-result : tie.Need-cast-result
 cast-result c = search needs
 
--- src/lib.rt:69:5
 shr-result : tie.Need-shr-result
 shr-result c = search needs
 
--- src/lib.rt:63:1
 returns-2 : tie.Need-returns-2
 returns-2 c = shifted-out (c .before .args .mask) (c .before .args .n)
 

@@ -9,16 +9,13 @@ use Rattle.senders.proofs.join.Tie as tie
 use Rattle.senders.proofs.join.Reads as reads
 use Rattle.senders.proofs.join.Lts as lts
 
--- src/lib.rt:22:9
 returns : tie.Need-returns
 unfolding joined
 returns c = simp (le-ltb _ _ (c .if1 .taken))
 
--- src/lib.rt:24:13
 shl-result : tie.Need-shl-result
 shl-result c = search needs
 
--- src/lib.rt:18:1
 returns-2 : tie.Need-returns-2
 unfolding joined
 returns-2 c =

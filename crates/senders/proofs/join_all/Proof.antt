@@ -5,7 +5,6 @@ use Rattle.senders.proofs.join_all.Tie as tie
 use Rattle.senders.proofs.join_all.Reads as reads
 use Rattle.senders.proofs.join_all.Lts as lts
 
--- src/lib.rt:56:1
 returns : tie.Need-returns
 unfolding together
 returns c = refl

@@ -7,23 +7,18 @@ use Rattle.steps.proofs.node_of.Reads as reads
 use Rattle.steps.proofs.node_of.Lts as lts
 use Rattle.steps.proofs.actor_of.Reads as actor-of-reads
 
--- src/lib.rt:112:9
 actor-of-requires : tie.Need-actor-of-requires
 actor-of-requires c κs = search needs
 
--- src/lib.rt:114:21
 enum-known-actor : tie.Need-enum-known-actor
 enum-known-actor c = search needs
 
--- src/lib.rt:115:26
 enum-told : tie.Need-enum-told
 enum-told c = search needs
 
--- src/lib.rt:109:1
 returns : tie.Need-returns
 returns c = sym (ap actorOr0 (is-node (actor (c .before .before .before .before .args .step)) _ (sym (c .before .before .before .actor-of .ensures) ∙ c .before .actor .given .1)))
 
--- src/lib.rt:109:1
 returns-2 : tie.Need-returns-2
 returns-2 c = sym (ap actorOr0 (is-nobody (actor (c .before .before .before .args .step)) (sym (c .before .before .actor-of .ensures) ∙ c .enum-told .given .1)))
 

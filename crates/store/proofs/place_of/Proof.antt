@@ -9,47 +9,37 @@ use Rattle.store.proofs.place_of.Reads as reads
 use Rattle.store.proofs.place_of.Lts as lts
 use Rattle.time.proofs.is_fresh.Reads as is-fresh-reads
 
--- src/lib.rt:30:9
 returns : tie.Need-returns
 unfolding placeOf hasPlace
 returns c = simp (le-ltb _ _ (c .if1 .taken))
 
--- src/lib.rt:32:8
 is-fresh-requires : tie.Need-is-fresh-requires
 is-fresh-requires c κs = search needs
 
--- src/lib.rt:33:22
 cast-offset : tie.Need-cast-offset
 cast-offset c = search needs
 
--- src/lib.rt:33:22
 add-offset : tie.Need-add-offset
 add-offset c = search needs
 
--- src/lib.rt:33:45
 cast-offset-2 : tie.Need-cast-offset-2
 cast-offset-2 c = search needs
 
--- src/lib.rt:33:22
 sub-offset : tie.Need-sub-offset
 sub-offset c =
     let a = c .before .before .before .before .before .args in
     fresh-low (a .stamp) (a .clock) (sym (c .before .before .before .is-fresh .ensures) ∙ c .before .before .if2 .taken)
 
--- src/lib.rt:34:19
 mul-t10 : tie.Need-mul-t10
 mul-t10 c = search needs
 
--- src/lib.rt:34:19
 add-t9 : tie.Need-add-t9
 add-t9 c = search needs
 
--- src/lib.rt:26:1
 returns-2 : tie.Need-returns-2
 unfolding placeOf hasPlace
 returns-2 c = simp (lt-ltb _ _ (c .before .before .before .before .if1 .left), sym (c .before .before .before .is-fresh .ensures) ∙ c .before .before .if2 .taken)
 
--- src/lib.rt:26:1
 returns-3 : tie.Need-returns-3
 unfolding placeOf hasPlace
 returns-3 c = simp (lt-ltb _ _ (c .before .before .if1 .left), sym (c .before .is-fresh .ensures) ∙ c .if2 .left)

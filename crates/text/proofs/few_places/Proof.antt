@@ -7,35 +7,27 @@ use Rattle.text.proofs.few_places.Tie as tie
 use Rattle.text.proofs.few_places.Reads as reads
 use Rattle.text.proofs.few_places.Lts as lts
 
--- src/lib.rt:15:9
 returns : tie.Need-returns
 returns c = sym (places-is 0 20 (c .before .args .n) (lit< tt) (c .if1 .taken) (λ p. absurd (not-suc-le-zero p)))
 
--- src/lib.rt:18:9
 returns-2 : tie.Need-returns-2
 returns-2 c = sym (places-is 1 20 (c .before .before .args .n) (lit< tt) (c .if2 .taken) (λ p. c .before .if1 .left))
 
--- src/lib.rt:21:9
 returns-3 : tie.Need-returns-3
 returns-3 c = sym (places-is 2 20 (c .before .before .before .args .n) (lit< tt) (c .if3 .taken) (λ p. c .before .if2 .left))
 
--- src/lib.rt:24:9
 returns-4 : tie.Need-returns-4
 returns-4 c = sym (places-is 3 20 (c .before .before .before .before .args .n) (lit< tt) (c .if4 .taken) (λ p. c .before .if3 .left))
 
--- src/lib.rt:27:9
 returns-5 : tie.Need-returns-5
 returns-5 c = sym (places-is 4 20 (c .before .before .before .before .before .args .n) (lit< tt) (c .if5 .taken) (λ p. c .before .if4 .left))
 
--- src/lib.rt:30:9
 returns-6 : tie.Need-returns-6
 returns-6 c = sym (places-is 5 20 (c .before .before .before .before .before .before .args .n) (lit< tt) (c .if6 .taken) (λ p. c .before .if5 .left))
 
--- src/lib.rt:33:9
 returns-7 : tie.Need-returns-7
 returns-7 c = sym (places-is 6 20 (c .before .before .before .before .before .before .before .args .n) (lit< tt) (c .if7 .taken) (λ p. c .before .if6 .left))
 
--- src/lib.rt:10:1
 returns-8 : tie.Need-returns-8
 returns-8 c = sym (places-is 7 20 (c .before .before .before .before .before .before .before .args .n) (lit< tt) (c .before .before .before .before .before .before .before .pre) (λ p. c .if7 .left))
 

@@ -10,37 +10,29 @@ use Rattle.text.proofs.places_of.Reads as reads
 use Rattle.text.proofs.places_of.Lts as lts
 use Rattle.text.proofs.few_places.Reads as few-places-reads
 
--- src/lib.rt:43:9
 few-places-requires : tie.Need-few-places-requires
 few-places-requires c κs = search needs
 
--- src/lib.rt:43:9
 returns : tie.Need-returns
 returns c = search needs
 
--- src/lib.rt:47:16
 few-places-requires-2 : tie.Need-few-places-requires-2
 few-places-requires-2 c κs = search needs
 
--- src/lib.rt:47:16
 add-result : tie.Need-add-result
 add-result c = omega (arith, c .few-places2 .ensures, places-le 20 (c .before .before .before .args .n / 10 ^ 8))
 
--- src/lib.rt:47:9
 returns-2 : tie.Need-returns-2
 returns-2 c =
     let a = c .before .before .before .args in
     ap (λ (k : ℕ). k + 8) (c .few-places2 .ensures) ∙ sym (places-8 (a .n) (c .before .before .if1 .left) (omega arith))
 
--- src/lib.rt:49:5
 few-places-requires-3 : tie.Need-few-places-requires-3
 few-places-requires-3 c κs = search needs
 
--- src/lib.rt:49:5
 add-result-2 : tie.Need-add-result-2
 add-result-2 c = omega (arith, c .few-places3 .ensures, places-le 20 (c .before .before .before .args .n / 10 ^ 8 / 10 ^ 8))
 
--- src/lib.rt:39:1
 returns-3 : tie.Need-returns-3
 returns-3 c =
     let a = c .before .before .before .args in

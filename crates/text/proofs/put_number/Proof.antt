@@ -12,53 +12,42 @@ use Rattle.text.proofs.put_number.Lts as lts
 use Rattle.text.proofs.places_of.Reads as places-of-reads
 use Rattle.text.proofs.spell.Reads as spell-reads
 
--- src/lib.rt:80:19
 cast-out : tie.Need-cast-out
 cast-out c = search needs
 
--- src/lib.rt:80:19
 add-out : tie.Need-add-out
 add-out c = search needs
 
--- src/lib.rt:80:9
 slice-write-out : tie.Need-slice-write-out
 slice-write-out c = search needs
 
--- src/lib.rt:81:16
 add-result : tie.Need-add-result
 add-result c = search needs
 
--- src/lib.rt:81:9
 same-length : tie.Need-same-length
 same-length c = search needs
 
--- src/lib.rt:81:9
 returns : tie.Need-returns
 returns c =
     let a = c .before .before .args in
     puts-as (sym (one-digit (a .n) (c .if1 .taken))) (record { bytes = refl; place = refl })
 
--- src/lib.rt:83:9
 places-of-requires : tie.Need-places-of-requires
 places-of-requires c κs = search needs
 
--- src/lib.rt:84:5
 spell-requires : tie.Need-spell-requires
 spell-requires c κs =
     let a = c .before .before .before .before .args in
     omega (arith, c .before .before .before .before .pre, c .before .places-of .ensures, places-le 20 (a .n))
 
--- src/lib.rt:85:5
 add-result-2 : tie.Need-add-result-2
 add-result-2 c =
     let a = c .before .before .before .before .before .before .before .args in
     omega (arith, c .before .before .before .before .before .before .before .good .0 .0, c .before .before .before .before .before .before .before .pre, c .before .before .before .before .places-of .ensures, places-le 20 (a .n))
 
--- src/lib.rt:75:1
 same-length-2 : tie.Need-same-length-2
 same-length-2 c = search needs
 
--- src/lib.rt:75:1
 returns-2 : tie.Need-returns-2
 unfolding decimal
 returns-2 c =

@@ -15,111 +15,92 @@ Inv-loop out₀ at count n left₀ rest₀ out left rest = Spelling out₀ at co
 abbrev μ-loop : tie.MeasureT-loop
 μ-loop out₀ at count n left₀ rest₀ out left rest = left
 
--- src/lib.rt:62:5
 loop-holds : tie.Need-loop-holds Inv-loop μ-loop
 loop-holds c =
     let a = c .args in
     spelling-begins (a .out .now) (a .at) (a .count) (a .n)
 
--- src/lib.rt:63:9
 sub-left : tie.Need-sub-left Inv-loop μ-loop
 sub-left c = search needs
 
--- src/lib.rt:64:20
 cast-pair : tie.Need-cast-pair Inv-loop μ-loop
 cast-pair c = search needs
 
--- src/lib.rt:65:30
 add-out : tie.Need-add-out Inv-loop μ-loop
 add-out c = search needs
 
--- src/lib.rt:65:13
 add-out-2 : tie.Need-add-out-2 Inv-loop μ-loop
 add-out-2 c =
     let a = c .before .before .args in
     let l = c .before .loop in
     omega (arith, c .before .before .pre, c .loop-test .taken, l .inv .within)
 
--- src/lib.rt:65:13
 add-out-3 : tie.Need-add-out-3 Inv-loop μ-loop
 add-out-3 c =
     let a = c .before .before .args in
     let l = c .before .loop in
     omega (arith, c .before .before .pre, c .loop-test .taken, l .inv .within)
 
--- src/lib.rt:65:9
 slice-write-out : tie.Need-slice-write-out Inv-loop μ-loop
 slice-write-out c =
     let a = c .before .before .args in
     let l = c .before .loop in
     omega (arith, c .before .before .pre, c .loop-test .taken, spelling-length (a .out .now) (a .at) (a .count) (a .n) (l .out) (l .left) (l .rest) (l .inv), l .inv .within)
 
--- src/lib.rt:66:26
 add-out-4 : tie.Need-add-out-4 Inv-loop μ-loop
 add-out-4 c = search needs
 
--- src/lib.rt:66:13
 add-out-5 : tie.Need-add-out-5 Inv-loop μ-loop
 add-out-5 c =
     let a = c .before .before .args in
     let l = c .before .loop in
     omega (arith, c .before .before .pre, c .loop-test .taken, l .inv .within)
 
--- src/lib.rt:66:9
 slice-write-out-2 : tie.Need-slice-write-out-2 Inv-loop μ-loop
 slice-write-out-2 c =
     let a = c .before .before .args in
     let l = c .before .loop in
     omega (arith, c .before .before .pre, c .loop-test .taken, spelling-length (a .out .now) (a .at) (a .count) (a .n) (l .out) (l .left) (l .rest) (l .inv), l .inv .within, length-set (l .out) (a .at + (l .left - 2) + 1) (l .rest % 100 % 10 + 48))
 
--- src/lib.rt:62:5
 loop-less : tie.Need-loop-less Inv-loop μ-loop
 loop-less c = omega (arith, c .loop-test .taken)
 
--- src/lib.rt:62:5
 loop-again : tie.Need-loop-again Inv-loop μ-loop
 loop-again c =
     let a = c .before .before .args in
     let l = c .before .loop in
     spelling-two (a .out .now) (a .at) (a .count) (a .n) (l .out) (l .left) (l .rest) (c .loop-test .taken) (l .inv)
 
--- src/lib.rt:70:9
 same-length : tie.Need-same-length Inv-loop μ-loop
 same-length c =
     let a = c .before .before .before .args in
     let l = c .before .before .loop in
     spelling-length (a .out .now) (a .at) (a .count) (a .n) (l .out) (l .left) (l .rest) (l .inv)
 
--- src/lib.rt:70:9
 returns : tie.Need-returns Inv-loop μ-loop
 returns c =
     let a = c .before .before .before .args in
     let l = c .before .before .loop in
     spelling-ends (a .out .now) (a .at) (a .count) (a .n) (l .out) (l .left) (l .rest) (omega (arith, c .if1 .taken)) (l .inv)
 
--- src/lib.rt:72:15
 cast-out : tie.Need-cast-out Inv-loop μ-loop
 cast-out c = search needs
 
--- src/lib.rt:72:15
 add-out-6 : tie.Need-add-out-6 Inv-loop μ-loop
 add-out-6 c = search needs
 
--- src/lib.rt:72:5
 slice-write-out-3 : tie.Need-slice-write-out-3 Inv-loop μ-loop
 slice-write-out-3 c =
     let a = c .before .before .before .args in
     let l = c .before .before .loop in
     omega (arith, c .before .before .before .pre, c .if1 .left, spelling-length (a .out .now) (a .at) (a .count) (a .n) (l .out) (l .left) (l .rest) (l .inv), l .inv .within)
 
--- src/lib.rt:56:1
 same-length-2 : tie.Need-same-length-2 Inv-loop μ-loop
 same-length-2 c =
     let a = c .before .before .before .args in
     let l = c .before .before .loop in
     length-set (l .out) (a .at) _ ∙ spelling-length (a .out .now) (a .at) (a .count) (a .n) (l .out) (l .left) (l .rest) (l .inv)
 
--- src/lib.rt:56:1
 returns-2 : tie.Need-returns-2 Inv-loop μ-loop
 returns-2 c =
     let a = c .before .before .before .args in

@@ -8,42 +8,33 @@ use Rattle.time.proofs.discretise.Reads as reads
 use Rattle.time.proofs.discretise.Lts as lts
 use Rattle.time.proofs.refused.Reads as refused-reads
 
--- src/lib.rt:41:9
 refused-requires : tie.Need-refused-requires
 refused-requires c κs = search needs
 
--- src/lib.rt:41:9
 returns : tie.Need-returns
 unfolding discretised refusal passed
 returns c = simp (c .refused .ensures, lt-leb _ _ (c .before .if1 .taken))
 
--- src/lib.rt:44:9
 refused-requires-2 : tie.Need-refused-requires-2
 refused-requires-2 c κs = search needs
 
--- src/lib.rt:44:9
 returns-2 : tie.Need-returns-2
 unfolding discretised refusal passed
 returns-2 c = simp (c .refused2 .ensures, le-leb _ _ (c .before .before .if1 .left), lt-leb _ _ (c .before .if2 .taken))
 
--- src/lib.rt:46:17
 div-stamp : tie.Need-div-stamp
 div-stamp c = search needs
 
--- src/lib.rt:48:9
 refused-requires-3 : tie.Need-refused-requires-3
 refused-requires-3 c κs = search needs
 
--- src/lib.rt:48:9
 returns-3 : tie.Need-returns-3
 unfolding discretised refusal passed
 returns-3 c = simp (c .refused3 .ensures, le-leb _ _ (c .before .before .before .before .if1 .left), le-leb _ _ (c .before .before .before .if2 .left), lt-leb _ _ (c .before .if3 .taken))
 
--- src/lib.rt:52:20
 cast-t6 : tie.Need-cast-t6
 cast-t6 c = search needs
 
--- src/lib.rt:36:1
 returns-4 : tie.Need-returns-4
 unfolding discretised refusal passed
 returns-4 c = simp (le-leb _ _ (c .before .before .before .if1 .left), le-leb _ _ (c .before .before .if2 .left), le-leb _ _ (c .if3 .left))

@@ -7,11 +7,9 @@ use Rattle.time.proofs.is_newer.Reads as reads
 use Rattle.time.proofs.is_newer.Lts as lts
 use Rattle.std.proofs.num.wrapping_sub_u32.Reads as wrapping-sub-u32-reads
 
--- src/lib.rt:74:9
 wrapping-sub-u32-requires : tie.Need-wrapping-sub-u32-requires
 wrapping-sub-u32-requires c κs = search needs
 
--- src/lib.rt:71:1
 returns : tie.Need-returns
 unfolding newer
 returns c = rw (ahead-is (c .wrapping-sub-u32 .result) (c .before .args .number) (c .before .args .last) (c .wrapping-sub-u32 .ensures) (omega arith) (omega arith))

@@ -8,11 +8,9 @@ use Rattle.time.proofs.next.Reads as reads
 use Rattle.time.proofs.next.Lts as lts
 use Rattle.std.proofs.num.wrapping_add_u32.Reads as wrapping-add-u32-reads
 
--- src/lib.rt:76:9
 wrapping-add-u32-requires : tie.Need-wrapping-add-u32-requires
 wrapping-add-u32-requires c κs = search needs
 
--- src/lib.rt:73:1
 returns : tie.Need-returns
 unfolding next
 returns c = ap (λ (n : ℕ). record { 0 = n }) (c .wrapping-add-u32 .ensures)

@@ -5,27 +5,21 @@ use Rattle.node.proofs.asked.is_armed.Tie as tie
 use Rattle.node.proofs.asked.is_armed.Reads as reads
 use Rattle.node.proofs.asked.is_armed.Lts as lts
 
--- src/asked.rt:111:24
 enum-known-phase : tie.Need-enum-known-phase
 enum-known-phase c = search needs
 
--- src/asked.rt:112:9
 returns : tie.Need-returns
 returns c = not-running (c .before .args .node .phase) (c .match .keys2) (λ e. simp e) (λ l e. simp e)
 
--- src/asked.rt:116:29
 enum-told : tie.Need-enum-told
 enum-told c = search needs
 
--- src/asked.rt:117:24
 enum-told-2 : tie.Need-enum-told-2
 enum-told-2 c = search needs
 
--- src/asked.rt:107:1
 returns-2 : tie.Need-returns-2
 returns-2 c = search needs
 
--- src/asked.rt:107:1
 returns-3 : tie.Need-returns-3
 returns-3 c = search needs
 

@@ -5,31 +5,24 @@ use Rattle.node.proofs.asked.is_in_attempt.Reads as reads
 use Rattle.node.proofs.asked.is_in_attempt.Lts as lts
 use Rattle.node.proofs.asked.is_attempt.Reads as is-attempt-reads
 
--- src/asked.rt:96:24
 enum-told : tie.Need-enum-told
 enum-told c = search needs
 
--- src/asked.rt:97:31
 enum-told-2 : tie.Need-enum-told-2
 enum-told-2 c = search needs
 
--- src/asked.rt:98:24
 enum-known-phase : tie.Need-enum-known-phase
 enum-known-phase c = search needs
 
--- src/asked.rt:101:13
 is-attempt-requires : tie.Need-is-attempt-requires
 is-attempt-requires c κs = search needs
 
--- src/asked.rt:91:1
 returns : tie.Need-returns
 returns c = search needs
 
--- src/asked.rt:91:1
 returns-2 : tie.Need-returns-2
 returns-2 c = search needs
 
--- src/asked.rt:91:1
 returns-3 : tie.Need-returns-3
 returns-3 c = simp (c .before .before .before .before .phase .given .1, c .is-attempt .ensures)
 

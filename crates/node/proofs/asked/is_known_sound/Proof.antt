@@ -4,19 +4,15 @@ use Rattle.node.proofs.asked.is_known_sound.Tie as tie
 use Rattle.node.proofs.asked.is_known_sound.Reads as reads
 use Rattle.node.proofs.asked.is_known_sound.Lts as lts
 
--- src/asked.rt:127:20
 enum-known-known : tie.Need-enum-known-known
 enum-known-known c = search needs
 
--- src/asked.rt:128:22
 enum-told : tie.Need-enum-told
 enum-told c = search needs
 
--- src/asked.rt:123:1
 returns : tie.Need-returns
 returns c = simp (c .before .before .known .given .1)
 
--- src/asked.rt:123:1
 returns-2 : tie.Need-returns-2
 returns-2 c = search needs
 

@@ -5,35 +5,27 @@ use Rattle.node.proofs.asked.is_new.Reads as reads
 use Rattle.node.proofs.asked.is_new.Lts as lts
 use Rattle.node.proofs.asked.is_new_after.Reads as is-new-after-reads
 
--- src/asked.rt:78:24
 enum-told : tie.Need-enum-told
 enum-told c = search needs
 
--- src/asked.rt:79:25
 enum-known-phase : tie.Need-enum-known-phase
 enum-known-phase c = search needs
 
--- src/asked.rt:81:13
 is-new-after-requires : tie.Need-is-new-after-requires
 is-new-after-requires c κs = search needs
 
--- src/asked.rt:83:24
 enum-known-phase-2 : tie.Need-enum-known-phase-2
 enum-known-phase-2 c = search needs
 
--- src/asked.rt:85:13
 is-new-after-requires-2 : tie.Need-is-new-after-requires-2
 is-new-after-requires-2 c κs = search needs
 
--- src/asked.rt:73:1
 returns : tie.Need-returns
 returns c = search needs
 
--- src/asked.rt:73:1
 returns-2 : tie.Need-returns-2
 returns-2 c = simp (c .before .before .phase .given .1, c .is-new-after .ensures)
 
--- src/asked.rt:73:1
 returns-3 : tie.Need-returns-3
 returns-3 c = simp (c .before .before .phase2 .given .1, c .is-new-after2 .ensures)
 

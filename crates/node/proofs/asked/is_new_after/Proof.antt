@@ -5,23 +5,18 @@ use Rattle.node.proofs.asked.is_new_after.Reads as reads
 use Rattle.node.proofs.asked.is_new_after.Lts as lts
 use Rattle.time.proofs.is_newer.Reads as is-newer-reads
 
--- src/asked.rt:67:22
 enum-known-last : tie.Need-enum-known-last
 enum-known-last c = search needs
 
--- src/asked.rt:67:32
 is-newer-requires : tie.Need-is-newer-requires
 is-newer-requires c κs = search needs
 
--- src/asked.rt:68:26
 enum-told : tie.Need-enum-told
 enum-told c = search needs
 
--- src/asked.rt:63:1
 returns : tie.Need-returns
 returns c = simp (c .before .before .last .given .1, c .is-newer .ensures)
 
--- src/asked.rt:63:1
 returns-2 : tie.Need-returns-2
 returns-2 c = search needs
 

@@ -5,11 +5,9 @@ use Rattle.node.proofs.asked.is_record_sound.Reads as reads
 use Rattle.node.proofs.asked.is_record_sound.Lts as lts
 use Rattle.node.proofs.asked.is_resend_sound.Reads as is-resend-sound-reads
 
--- src/asked.rt:145:9
 is-resend-sound-requires : tie.Need-is-resend-sound-requires
 is-resend-sound-requires c κs = search needs
 
--- src/asked.rt:141:1
 returns : tie.Need-returns
 returns c = simp (c .before .before .is-resend-sound .ensures)
 

@@ -4,19 +4,15 @@ use Rattle.node.proofs.asked.is_resend_sound.Tie as tie
 use Rattle.node.proofs.asked.is_resend_sound.Reads as reads
 use Rattle.node.proofs.asked.is_resend_sound.Lts as lts
 
--- src/asked.rt:136:23
 enum-known-resend : tie.Need-enum-known-resend
 enum-known-resend c = search needs
 
--- src/asked.rt:137:24
 enum-told : tie.Need-enum-told
 enum-told c = search needs
 
--- src/asked.rt:132:1
 returns : tie.Need-returns
 returns c = simp (c .before .before .resend .given .1)
 
--- src/asked.rt:132:1
 returns-2 : tie.Need-returns-2
 returns-2 c = search needs
 

@@ -9,40 +9,31 @@ use Rattle.node.proofs.asked.is_known_sound.Reads as is-known-sound-rea
 use Rattle.node.proofs.asked.is_record_sound.Reads as is-record-sound-reads
 use Rattle.store.proofs.Store.is_within.Reads as is-within-reads
 
--- src/asked.rt:154:9
 is-within-requires : tie.Need-is-within-requires
 is-within-requires c κs = search needs
 
--- src/asked.rt:157:24
 enum-told : tie.Need-enum-told
 enum-told c = search needs
 
--- src/asked.rt:158:25
 enum-known-phase : tie.Need-enum-known-phase
 enum-known-phase c = search needs
 
--- src/asked.rt:161:17
 is-known-sound-requires : tie.Need-is-known-sound-requires
 is-known-sound-requires c κs = search needs
 
--- src/asked.rt:162:17
 is-known-sound-requires-2 : tie.Need-is-known-sound-requires-2
 is-known-sound-requires-2 c κs = search needs
 
--- src/asked.rt:165:24
 enum-known-phase-2 : tie.Need-enum-known-phase-2
 enum-known-phase-2 c = search needs
 
--- src/asked.rt:166:17
 is-record-sound-requires : tie.Need-is-record-sound-requires
 is-record-sound-requires c κs = search needs
 
--- src/asked.rt:149:1
 returns : tie.Need-returns
 unfolding nodeSound
 returns c = simp (c .enum-told .given .1, c .before .before .before .is-within .ensures, and-true)
 
--- src/asked.rt:149:1
 returns-2 : tie.Need-returns-2
 unfolding nodeSound
 returns-2 c =
@@ -50,7 +41,6 @@ returns-2 c =
     simp
     (told .phase .given .1, told .before .before .before .is-within .ensures, c .before .is-known-sound .ensures, c .is-known-sound2 .ensures, and-assoc)
 
--- src/asked.rt:149:1
 returns-3 : tie.Need-returns-3
 unfolding nodeSound
 returns-3 c = simp (c .before .before .phase2 .given .1, c .before .before .before .before .before .is-within .ensures, c .is-record-sound .ensures)

@@ -8,27 +8,21 @@ use Rattle.senders.proofs.how_many.Reads as how-many-reads
 use Rattle.senders.proofs.is_within.Reads as is-within-reads
 use Rattle.store.proofs.Store.is_within.Reads as Store-is-within-reads
 
--- src/sound.rt:25:9
 is-within-requires : tie.Need-is-within-requires
 is-within-requires c κs = search needs
 
--- src/sound.rt:26:15
 how-many-requires : tie.Need-how-many-requires
 how-many-requires c κs = search needs
 
--- src/sound.rt:26:54
 cast-few : tie.Need-cast-few
 cast-few c = search needs
 
--- src/sound.rt:27:9
 is-within-requires-2 : tie.Need-is-within-requires-2
 is-within-requires-2 c κs = search needs
 
--- src/sound.rt:28:9
 is-within-requires-3 : tie.Need-is-within-requires-3
 is-within-requires-3 c κs = search needs
 
--- src/sound.rt:21:1
 returns : tie.Need-returns
 unfolding setsSound
 returns c = simp (c .is-within3 .ensures, c .before .is-within2 .ensures, c .before .before .before .how-many .ensures, c .before .before .before .before .is-within .ensures)

@@ -7,15 +7,12 @@ use Rattle.site.proofs.sound.is_actor_sound.Lts as lts
 use Rattle.node.proofs.asked.is_sound.Reads as is-sound-reads
 use Rattle.site.proofs.sound.nodes.Reads as nodes-reads
 
--- src/sound.rt:48:9
 nodes-requires : tie.Need-nodes-requires
 nodes-requires c κs = search needs
 
--- src/sound.rt:49:9
 is-sound-requires : tie.Need-is-sound-requires
 is-sound-requires c κs = search needs
 
--- src/sound.rt:45:1
 returns : tie.Need-returns
 unfolding actorSound
 returns c = simp (c .is-sound .ensures, c .before .nodes .ensures)

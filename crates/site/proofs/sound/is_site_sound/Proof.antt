@@ -9,27 +9,21 @@ use Rattle.site.proofs.sound.are_numbers_sound.Reads as are-numbers-sou
 use Rattle.site.proofs.sound.are_sets_sound.Reads as are-sets-sound-reads
 use Rattle.site.proofs.sound.nodes.Reads as nodes-reads
 
--- src/sound.rt:37:9
 nodes-requires : tie.Need-nodes-requires
 nodes-requires c κs = search needs
 
--- src/sound.rt:38:9
 are-numbers-sound-requires : tie.Need-are-numbers-sound-requires
 are-numbers-sound-requires c κs = search needs
 
--- src/sound.rt:39:9
 are-sets-sound-requires : tie.Need-are-sets-sound-requires
 are-sets-sound-requires c κs = search needs
 
--- src/sound.rt:40:9
 is-sound-requires : tie.Need-is-sound-requires
 is-sound-requires c κs = search needs
 
--- src/sound.rt:41:21
 cast-result : tie.Need-cast-result
 cast-result c = search needs
 
--- src/sound.rt:33:1
 returns : tie.Need-returns
 unfolding siteSound
 returns c = simp (c .before .is-sound .ensures, c .before .before .are-sets-sound .ensures, c .before .before .before .are-numbers-sound .ensures, c .before .before .before .before .nodes .ensures)

@@ -18,26 +18,21 @@ Inv-loop self action above f clock i₀ i = (i ≤ 5) × (firstOf (qualifies sel
 abbrev μ-loop : tie.MeasureT-loop
 μ-loop self action above f clock i₀ i = 5 - i
 
--- src/lib.rt:142:9
 loop-holds : tie.Need-loop-holds Inv-loop μ-loop
 unfolding earliest
 loop-holds c = (omega arith, refl)
 
--- src/lib.rt:143:17
 fresh-stamp-requires : tie.Need-fresh-stamp-requires Inv-loop μ-loop
 fresh-stamp-requires c κs = search needs
 
--- src/lib.rt:144:16
 qualifies-requires : tie.Need-qualifies-requires Inv-loop μ-loop
 qualifies-requires c κs = search needs
 
--- src/lib.rt:145:44
 cast-t10 : tie.Need-cast-t10 Inv-loop μ-loop
 cast-t10 c =
     let a = c .before .before .before .before .before .before .args in
     record { fits = qualifies-fits (a .self) (a .action) (a .above) (a .f) (c .before .before .fresh-stamp .result) (sym (c .before .qualifies .ensures) ∙ c .if1 .taken) }
 
--- src/lib.rt:145:17
 returns : tie.Need-returns Inv-loop μ-loop
 returns c =
     let a = c .before .before .before .before .before .before .args in
@@ -47,15 +42,12 @@ returns c =
     (sym (found-here (qualifies (a .self) (a .action) (a .above) (a .f)) 5 (freshStamp (a .self .clock)) (l .loop .i) (omega arith) (rw (c .before .before .fresh-stamp .ensures) at passed))
     ∙ l .loop .inv .1)
 
--- src/lib.rt:147:13
 add-i : tie.Need-add-i Inv-loop μ-loop
 add-i c = search needs
 
--- src/lib.rt:142:9
 loop-less : tie.Need-loop-less Inv-loop μ-loop
 loop-less c = search needs
 
--- src/lib.rt:142:9
 loop-again : tie.Need-loop-again Inv-loop μ-loop
 loop-again c =
     let a = c .before .before .before .before .before .before .args in
@@ -66,7 +58,6 @@ loop-again c =
           ∙ l .loop .inv .1,
     )
 
--- src/lib.rt:137:5
 returns-2 : tie.Need-returns-2 Inv-loop μ-loop
 returns-2 c =
     let a = c .before .before .before .args in

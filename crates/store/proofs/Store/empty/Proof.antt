@@ -6,7 +6,6 @@ use Rattle.store.proofs.Store.empty.Tie as tie
 use Rattle.store.proofs.Store.empty.Reads as reads
 use Rattle.store.proofs.Store.empty.Lts as lts
 
--- src/lib.rt:53:5
 returns : tie.Need-returns
 unfolding empty table
 returns c = refl

@@ -11,51 +11,39 @@ use Rattle.store.proofs.Store.is_within.Reads as reads
 use Rattle.store.proofs.Store.is_within.Lts as lts
 use Rattle.senders.proofs.is_within.Reads as is-within-reads
 
--- src/lib.rt:158:19
 array-read-low : tie.Need-array-read-low
 array-read-low c = search needs
 
--- src/lib.rt:158:26
 array-read-low-2 : tie.Need-array-read-low-2
 array-read-low-2 c = search needs
 
--- src/lib.rt:158:33
 array-read-low-3 : tie.Need-array-read-low-3
 array-read-low-3 c = search needs
 
--- src/lib.rt:158:40
 array-read-low-4 : tie.Need-array-read-low-4
 array-read-low-4 c = search needs
 
--- src/lib.rt:158:47
 array-read-low-5 : tie.Need-array-read-low-5
 array-read-low-5 c = search needs
 
--- src/lib.rt:159:20
 array-read-high : tie.Need-array-read-high
 array-read-high c = search needs
 
--- src/lib.rt:159:27
 array-read-high-2 : tie.Need-array-read-high-2
 array-read-high-2 c = search needs
 
--- src/lib.rt:159:34
 array-read-high-3 : tie.Need-array-read-high-3
 array-read-high-3 c = search needs
 
--- src/lib.rt:159:41
 array-read-high-4 : tie.Need-array-read-high-4
 array-read-high-4 c = search needs
 
--- src/lib.rt:159:48
 array-read-high-5 : tie.Need-array-read-high-5
 array-read-high-5 c = search needs
 
--- src/lib.rt:160:9
 is-within-requires : tie.Need-is-within-requires
 is-within-requires c κs = search needs
 
--- src/lib.rt:154:5
 returns : tie.Need-returns
 unfolding storeWithin table together
 returns c =

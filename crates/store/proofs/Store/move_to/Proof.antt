@@ -20,40 +20,31 @@ Inv-loop self clock by masks₀ i₀ masks i = (i ≤ 10) × ((length masks ≡ 
 abbrev μ-loop : tie.MeasureT-loop
 μ-loop self clock by masks₀ i₀ masks i = 10 - i
 
--- src/lib.rt:110:13
 returns : tie.Need-returns Inv-loop μ-loop
 unfolding movedTo
 returns c = simp (le-leb _ _ (c .if1 .taken))
 
--- src/lib.rt:112:18
 sub-by : tie.Need-sub-by Inv-loop μ-loop
 sub-by c = search needs
 
--- src/lib.rt:115:9
 loop-holds : tie.Need-loop-holds Inv-loop μ-loop
 loop-holds c = (omega arith, (refl, λ k h. absurd (not-suc-le-zero h)))
 
--- src/lib.rt:116:24
 moved-from-requires : tie.Need-moved-from-requires Inv-loop μ-loop
 moved-from-requires c κs = search needs
 
--- src/lib.rt:116:13
 mul-masks : tie.Need-mul-masks Inv-loop μ-loop
 mul-masks c = search needs
 
--- src/lib.rt:116:13
 array-write-masks : tie.Need-array-write-masks Inv-loop μ-loop
 array-write-masks c = search needs
 
--- src/lib.rt:117:13
 add-i : tie.Need-add-i Inv-loop μ-loop
 add-i c = search needs
 
--- src/lib.rt:115:9
 loop-less : tie.Need-loop-less Inv-loop μ-loop
 loop-less c = search needs
 
--- src/lib.rt:115:9
 loop-again : tie.Need-loop-again Inv-loop μ-loop
 loop-again c =
     let l = c .before .before in
@@ -66,7 +57,6 @@ loop-again c =
       ),
     )
 
--- src/lib.rt:105:5
 returns-2 : tie.Need-returns-2 Inv-loop μ-loop
 unfolding movedTo
 returns-2 c =

@@ -8,37 +8,30 @@ use Rattle.store.proofs.Store.moved_from.Tie as tie
 use Rattle.store.proofs.Store.moved_from.Reads as reads
 use Rattle.store.proofs.Store.moved_from.Lts as lts
 
--- src/lib.rt:94:13
 returns : tie.Need-returns
 unfolding movedFrom
 returns c =
     let a = c .before .args in
     simp (le-ltb (a .at % 5 + a .by) 5 (omega arith))
 
--- src/lib.rt:96:20
 add-from : tie.Need-add-from
 add-from c = search needs
 
--- src/lib.rt:97:12
 add-if2 : tie.Need-add-if2
 add-if2 c = search needs
 
--- src/lib.rt:98:13
 mul-result : tie.Need-mul-result
 mul-result c = search needs
 
--- src/lib.rt:98:13
 element-copy-out-result : tie.Need-element-copy-out-result
 element-copy-out-result c = search needs
 
--- src/lib.rt:89:5
 returns-2 : tie.Need-returns-2
 unfolding movedFrom
 returns-2 c =
     let a = c .before .before .before .args in
     simp (lt-ltb (a .at % 5 + a .by) 5 (omega arith))
 
--- src/lib.rt:89:5
 returns-3 : tie.Need-returns-3
 unfolding movedFrom
 returns-3 c =

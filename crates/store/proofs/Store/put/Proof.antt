@@ -10,56 +10,46 @@ use Rattle.store.proofs.Store.put.Lts as lts
 use Rattle.senders.proofs.join.Reads as join-reads
 use Rattle.store.proofs.place_of.Reads as place-of-reads
 
--- src/lib.rt:67:13
 place-of-requires : tie.Need-place-of-requires
 place-of-requires c κs = search needs
 
--- src/lib.rt:68:23
 enum-known-place : tie.Need-enum-known-place
 enum-known-place c = search needs
 
--- src/lib.rt:69:13
 enum-told : tie.Need-enum-told
 enum-told c = search needs
 
--- src/lib.rt:69:13
 returns : tie.Need-returns
 unfolding put
 returns c =
     let a = c .before .before .before .before .args in
     simp (not-found (a .t1 .clock) (a .action) (a .stamp) (sym (c .before .before .place-of .ensures) ∙ c .enum-told .given .1))
 
--- src/lib.rt:71:20
 mul-mask : tie.Need-mul-mask
 mul-mask c =
     let a = c .before .before .before .before .before .args in
     let h = found-lt (a .t1 .clock) (a .action) (a .stamp) (c .before .place .given .0 .0) (sym (c .before .before .before .place-of .ensures) ∙ c .before .place .given .1) in
     omega arith
 
--- src/lib.rt:71:20
 element-copy-out-mask : tie.Need-element-copy-out-mask
 element-copy-out-mask c =
     let a = c .before .before .before .before .before .args in
     found-lt (a .t1 .clock) (a .action) (a .stamp) (c .before .place .given .0 .0) (sym (c .before .before .before .place-of .ensures) ∙ c .before .place .given .1)
 
--- src/lib.rt:72:26
 join-requires : tie.Need-join-requires
 join-requires c κs = search needs
 
--- src/lib.rt:72:9
 mul-self : tie.Need-mul-self
 mul-self c =
     let a = c .before .before .before .before .before .before .before .args in
     let h = found-lt (a .t1 .clock) (a .action) (a .stamp) (c .before .before .before .place .given .0 .0) (sym (c .before .before .before .before .before .place-of .ensures) ∙ c .before .before .before .place .given .1) in
     omega arith
 
--- src/lib.rt:72:9
 element-write-self : tie.Need-element-write-self
 element-write-self c =
     let a = c .before .before .before .before .before .before .before .args in
     found-lt (a .t1 .clock) (a .action) (a .stamp) (c .before .before .before .place .given .0 .0) (sym (c .before .before .before .before .before .place-of .ensures) ∙ c .before .before .before .place .given .1)
 
--- src/lib.rt:63:5
 returns-2 : tie.Need-returns-2
 returns-2 c =
     let a = c .before .before .before .before .before .before .before .args in

@@ -9,39 +9,32 @@ use Rattle.store.proofs.Store.senders.Reads as reads
 use Rattle.store.proofs.Store.senders.Lts as lts
 use Rattle.store.proofs.place_of.Reads as place-of-reads
 
--- src/lib.rt:81:13
 place-of-requires : tie.Need-place-of-requires
 place-of-requires c κs = search needs
 
--- src/lib.rt:82:23
 enum-known-place : tie.Need-enum-known-place
 enum-known-place c = search needs
 
--- src/lib.rt:83:13
 enum-told : tie.Need-enum-told
 enum-told c = search needs
 
--- src/lib.rt:83:13
 returns : tie.Need-returns
 unfolding sendersOf
 returns c =
     let a = c .before .before .before .before .args in
     simp (not-found (a .t1 .clock) (a .action) (a .stamp) (sym (c .before .before .place-of .ensures) ∙ c .enum-told .given .1))
 
--- src/lib.rt:85:9
 mul-result : tie.Need-mul-result
 mul-result c =
     let a = c .before .before .before .before .before .args in
     let h = found-lt (a .t1 .clock) (a .action) (a .stamp) (c .before .place .given .0 .0) (sym (c .before .before .before .place-of .ensures) ∙ c .before .place .given .1) in
     omega arith
 
--- src/lib.rt:85:9
 element-copy-out-result : tie.Need-element-copy-out-result
 element-copy-out-result c =
     let a = c .before .before .before .before .before .args in
     found-lt (a .t1 .clock) (a .action) (a .stamp) (c .before .place .given .0 .0) (sym (c .before .before .before .place-of .ensures) ∙ c .before .place .given .1)
 
--- src/lib.rt:77:5
 returns-2 : tie.Need-returns-2
 unfolding sendersOf
 returns-2 c =

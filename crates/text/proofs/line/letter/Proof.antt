@@ -4,11 +4,9 @@ use Rattle.text.proofs.line.letter.Tie as tie
 use Rattle.text.proofs.line.letter.Reads as reads
 use Rattle.text.proofs.line.letter.Lts as lts
 
--- src/line.rt:19:1
 returns : tie.Need-returns
 returns c = simp (eq-eqb _ _ (c .if1 .taken))
 
--- src/line.rt:19:1
 returns-2 : tie.Need-returns-2
 returns-2 c = simp (ne-eqb _ _ (c .if1 .left))
 

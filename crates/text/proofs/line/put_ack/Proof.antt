@@ -6,29 +6,23 @@ use Rattle.text.proofs.line.put_ack.Reads as reads
 use Rattle.text.proofs.line.put_ack.Lts as lts
 use Rattle.text.proofs.line.put_pair.Reads as put-pair-reads
 
--- src/line.rt:102:20
 enum-known-ack : tie.Need-enum-known-ack
 enum-known-ack c = search needs
 
--- src/line.rt:102:26
 put-pair-requires : tie.Need-put-pair-requires
 put-pair-requires c κs = search needs
 
--- src/line.rt:103:22
 enum-told : tie.Need-enum-told
 enum-told c = search needs
 
--- src/line.rt:97:1
 same-length : tie.Need-same-length
 same-length c = search needs
 
--- src/line.rt:97:1
 returns : tie.Need-returns
 returns c =
     let a = c .before .before .before .before .before .before .before .before .args in
     puts-as (ack-yes (a .i) (a .ack) _ (c .before .before .before .before .before .ack .given .1)) (c .before .before .put-pair .ensures)
 
--- src/line.rt:97:1
 returns-2 : tie.Need-returns-2
 returns-2 c =
     let a = c .before .before .before .args in

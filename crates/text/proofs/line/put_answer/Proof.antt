@@ -7,37 +7,29 @@ use Rattle.text.proofs.line.put_answer.Lts as lts
 use Rattle.text.proofs.line.put_nothing.Reads as put-nothing-reads
 use Rattle.text.proofs.line.put_tail.Reads as put-tail-reads
 
--- src/line.rt:168:22
 enum-known-answer : tie.Need-enum-known-answer
 enum-known-answer c = search needs
 
--- src/line.rt:168:31
 put-tail-requires : tie.Need-put-tail-requires
 put-tail-requires c κs = search needs
 
--- src/line.rt:169:43
 enum-told : tie.Need-enum-told
 enum-told c = search needs
 
--- src/line.rt:169:31
 put-nothing-requires : tie.Need-put-nothing-requires
 put-nothing-requires c κs = search needs
 
--- src/line.rt:163:1
 same-length : tie.Need-same-length
 same-length c = search needs
 
--- src/line.rt:163:1
 returns : tie.Need-returns
 returns c =
     let a = c .before .before .before .before .before .before .before .before .args in
     answer-done (a .i) (a .answer) (c .before .before .before .before .before .answer .given .0 .0) (c .before .before .before .before .before .answer .given .1) (c .before .before .put-tail .ensures)
 
--- src/line.rt:163:1
 same-length-2 : tie.Need-same-length-2
 same-length-2 c = search needs
 
--- src/line.rt:163:1
 returns-2 : tie.Need-returns-2
 returns-2 c =
     let a = c .before .before .before .before .before .before .before .args in

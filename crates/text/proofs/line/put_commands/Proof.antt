@@ -1,8 +1,7 @@
-use Rattle.text.specs.LineLaws.{length-lettered}
+use Rattle.text.specs.LineLaws.{length-lettered, puts-as, puts-nothing, pairs-zero, pairs-one, pairs-two}
 use native.Mathlib.Omega.{arith}
-use Rattle.site.specs.Effects.{Command}
+use Rattle.site.specs.Answers.{Command}
 use Rattle.text.specs.Puts.{then}
-use Rattle.text.specs.LineLaws.{puts-as, puts-nothing, pairs-zero, pairs-one, pairs-two}
 use borrow.Author.Needs.{needs}
 use Rattle.text.proofs.line.put_commands.Statement.{statement}
 use Rattle.text.proofs.line.put_commands.Tie as tie
@@ -10,53 +9,42 @@ use Rattle.text.proofs.line.put_commands.Reads as reads
 use Rattle.text.proofs.line.put_commands.Lts as lts
 use Rattle.text.proofs.line.put_pair.Reads as put-pair-reads
 
--- src/line.rt:88:24
 enum-told : tie.Need-enum-told
 enum-told c = search needs
 
--- src/line.rt:89:20
 enum-known-commands : tie.Need-enum-known-commands
 enum-known-commands c = search needs
 
--- src/line.rt:89:26
 put-pair-requires : tie.Need-put-pair-requires
 put-pair-requires c κs = search needs
 
--- src/line.rt:90:20
 enum-known-commands-2 : tie.Need-enum-known-commands-2
 enum-known-commands-2 c = search needs
 
--- src/line.rt:91:17
 put-pair-requires-2 : tie.Need-put-pair-requires-2
 put-pair-requires-2 c κs = search needs
 
--- src/line.rt:92:13
 put-pair-requires-3 : tie.Need-put-pair-requires-3
 put-pair-requires-3 c κs =
     let a = c .before .before .before .before .before .before .before .before .before .args in
     omega (arith, c .before .before .before .before .before .before .before .before .before .pre, c .before .before .before .put-pair2 .ensures .place, c .before .before .before .put-pair2 .kept .0, length-lettered 44 67 (c .before .before .before .before .before .before .commands2 .given .0 .0))
 
--- src/line.rt:83:1
 returns : tie.Need-returns
 returns c =
     let a = c .before .before .before .args in
     puts-as (pairs-zero Command (a .i) (a .commands) (c .enum-told .given .1)) (puts-nothing _ _)
 
--- src/line.rt:83:1
 same-length : tie.Need-same-length
 same-length c = search needs
 
--- src/line.rt:83:1
 returns-2 : tie.Need-returns-2
 returns-2 c =
     let a = c .before .before .before .before .before .before .before .before .args in
     puts-as (pairs-one Command (a .i) (a .commands) _ (c .before .before .before .before .before .commands .given .1)) (c .before .before .put-pair .ensures)
 
--- src/line.rt:83:1
 same-length-2 : tie.Need-same-length-2
 same-length-2 c = search needs
 
--- src/line.rt:83:1
 returns-3 : tie.Need-returns-3
 returns-3 c =
     let a = c .before .before .before .before .before .before .before .before .before .before .before .before .args in

@@ -9,39 +9,30 @@ use Rattle.text.proofs.line.put_head.Lts as lts
 use Rattle.text.proofs.line.put_byte.Reads as put-byte-reads
 use Rattle.text.proofs.put_number.Reads as put-number-reads
 
--- src/line.rt:124:9
 put-number-requires : tie.Need-put-number-requires
 put-number-requires c κs = search needs
 
--- src/line.rt:125:9
 put-byte-requires : tie.Need-put-byte-requires
 put-byte-requires c κs = omega (arith, c .before .before .before .before .before .before .pre, c .before .before .before .before .before .before .good .0 .0, c .before .before .before .put-number .ensures .place, c .before .before .before .put-number .kept .0, length-decimal (c .before .before .before .before .before .before .args .number), length-decimal (c .before .before .before .before .before .before .args .refusal))
 
--- src/line.rt:126:9
 put-number-requires-2 : tie.Need-put-number-requires-2
 put-number-requires-2 c κs = omega (arith, c .before .before .before .before .before .before .before .before .before .before .pre, c .before .before .before .before .before .before .before .before .before .before .good .0 .0, c .before .before .before .put-byte .ensures .place, c .before .before .before .before .before .before .before .put-number .ensures .place, c .before .before .before .put-byte .kept .0, c .before .before .before .before .before .before .before .put-number .kept .0, length-decimal (c .before .before .before .before .before .before .before .before .before .before .args .number), length-decimal (c .before .before .before .before .before .before .before .before .before .before .args .refusal))
 
--- src/line.rt:127:9
 put-byte-requires-2 : tie.Need-put-byte-requires-2
 put-byte-requires-2 c κs = omega (arith, c .before .before .before .before .before .before .before .before .before .before .before .before .before .before .pre, c .before .before .before .before .before .before .before .before .before .before .before .before .before .before .good .0 .0, c .before .before .before .put-number2 .ensures .place, c .before .before .before .before .before .before .before .put-byte .ensures .place, c .before .before .before .before .before .before .before .before .before .before .before .put-number .ensures .place, c .before .before .before .put-number2 .kept .0, c .before .before .before .before .before .before .before .put-byte .kept .0, c .before .before .before .before .before .before .before .before .before .before .before .put-number .kept .0, length-decimal (c .before .before .before .before .before .before .before .before .before .before .before .before .before .before .args .number), length-decimal (c .before .before .before .before .before .before .before .before .before .before .before .before .before .before .args .refusal))
 
--- src/line.rt:128:9
 put-byte-requires-3 : tie.Need-put-byte-requires-3
 put-byte-requires-3 c κs = omega (arith, c .before .before .before .before .before .before .before .before .before .before .before .before .before .before .before .before .before .before .pre, c .before .before .before .before .before .before .before .before .before .before .before .before .before .before .before .before .before .before .good .0 .0, c .before .before .before .put-byte2 .ensures .place, c .before .before .before .before .before .before .before .put-number2 .ensures .place, c .before .before .before .before .before .before .before .before .before .before .before .put-byte .ensures .place, c .before .before .before .before .before .before .before .before .before .before .before .before .before .before .before .put-number .ensures .place, c .before .before .before .put-byte2 .kept .0, c .before .before .before .before .before .before .before .put-number2 .kept .0, c .before .before .before .before .before .before .before .before .before .before .before .put-byte .kept .0, c .before .before .before .before .before .before .before .before .before .before .before .before .before .before .before .put-number .kept .0, length-decimal (c .before .before .before .before .before .before .before .before .before .before .before .before .before .before .before .before .before .before .args .number), length-decimal (c .before .before .before .before .before .before .before .before .before .before .before .before .before .before .before .before .before .before .args .refusal))
 
--- src/line.rt:129:9
 put-byte-requires-4 : tie.Need-put-byte-requires-4
 put-byte-requires-4 c κs = omega (arith, c .before .before .before .before .before .before .before .before .before .before .before .before .before .before .before .before .before .before .before .before .before .before .pre, c .before .before .before .before .before .before .before .before .before .before .before .before .before .before .before .before .before .before .before .before .before .before .good .0 .0, c .before .before .before .put-byte3 .ensures .place, c .before .before .before .before .before .before .before .put-byte2 .ensures .place, c .before .before .before .before .before .before .before .before .before .before .before .put-number2 .ensures .place, c .before .before .before .before .before .before .before .before .before .before .before .before .before .before .before .put-byte .ensures .place, c .before .before .before .before .before .before .before .before .before .before .before .before .before .before .before .before .before .before .before .put-number .ensures .place, c .before .before .before .put-byte3 .kept .0, c .before .before .before .before .before .before .before .put-byte2 .kept .0, c .before .before .before .before .before .before .before .before .before .before .before .put-number2 .kept .0, c .before .before .before .before .before .before .before .before .before .before .before .before .before .before .before .put-byte .kept .0, c .before .before .before .before .before .before .before .before .before .before .before .before .before .before .before .before .before .before .before .put-number .kept .0, length-decimal (c .before .before .before .before .before .before .before .before .before .before .before .before .before .before .before .before .before .before .before .before .before .before .args .number), length-decimal (c .before .before .before .before .before .before .before .before .before .before .before .before .before .before .before .before .before .before .before .before .before .before .args .refusal))
 
--- src/line.rt:130:5
 put-number-requires-3 : tie.Need-put-number-requires-3
 put-number-requires-3 c κs = omega (arith, c .before .before .before .before .before .before .before .before .before .before .before .before .before .before .before .before .before .before .before .before .before .before .before .before .before .before .pre, c .before .before .before .before .before .before .before .before .before .before .before .before .before .before .before .before .before .before .before .before .before .before .before .before .before .before .good .0 .0, c .before .before .before .put-byte4 .ensures .place, c .before .before .before .before .before .before .before .put-byte3 .ensures .place, c .before .before .before .before .before .before .before .before .before .before .before .put-byte2 .ensures .place, c .before .before .before .before .before .before .before .before .before .before .before .before .before .before .before .put-number2 .ensures .place, c .before .before .before .before .before .before .before .before .before .before .before .before .before .before .before .before .before .before .before .put-byte .ensures .place, c .before .before .before .before .before .before .before .before .before .before .before .before .before .before .before .before .before .before .before .before .before .before .before .put-number .ensures .place, c .before .before .before .put-byte4 .kept .0, c .before .before .before .before .before .before .before .put-byte3 .kept .0, c .before .before .before .before .before .before .before .before .before .before .before .put-byte2 .kept .0, c .before .before .before .before .before .before .before .before .before .before .before .before .before .before .before .put-number2 .kept .0, c .before .before .before .before .before .before .before .before .before .before .before .before .before .before .before .before .before .before .before .put-byte .kept .0, c .before .before .before .before .before .before .before .before .before .before .before .before .before .before .before .before .before .before .before .before .before .before .before .put-number .kept .0, length-decimal (c .before .before .before .before .before .before .before .before .before .before .before .before .before .before .before .before .before .before .before .before .before .before .before .before .before .before .args .number), length-decimal (c .before .before .before .before .before .before .before .before .before .before .before .before .before .before .before .before .before .before .before .before .before .before .before .before .before .before .args .refusal))
 
--- src/line.rt:120:1
 same-length : tie.Need-same-length
 same-length c = search needs
 
--- src/line.rt:120:1
 returns : tie.Need-returns
 returns c = then (c .before .before .before .before .before .before .before .before .before .before .before .before .before .before .before .before .before .before .before .before .before .before .before .before .before .before .put-number .ensures) (then (c .before .before .before .before .before .before .before .before .before .before .before .before .before .before .before .before .before .before .before .before .before .before .put-byte .ensures) (then (c .before .before .before .before .before .before .before .before .before .before .before .before .before .before .before .before .before .before .put-number2 .ensures) (then (c .before .before .before .before .before .before .before .before .before .before .before .before .before .before .put-byte2 .ensures) (then (c .before .before .before .before .before .before .before .before .before .before .put-byte3 .ensures) (then (c .before .before .before .before .before .before .put-byte4 .ensures) (c .before .before .put-number3 .ensures))))))
 

@@ -15,7 +15,6 @@ use Rattle.text.proofs.line.put_head.Reads as put-head-reads
 use Rattle.text.proofs.line.shown_stamp.Reads as shown-stamp-reads
 use Rattle.text.proofs.line.shown_status.Reads as shown-status-reads
 
--- src/line.rt:205:9
 returns : tie.Need-returns
 unfolding lineBytes lineNext
 returns c =
@@ -23,11 +22,9 @@ returns c =
     let no = lt-leb (a .at + 256) (length (a .out .now)) (omega arith) in
     (simp no, simp no)
 
--- src/line.rt:207:8
 sub-if2 : tie.Need-sub-if2
 sub-if2 c = search needs
 
--- src/line.rt:208:9
 returns-2 : tie.Need-returns-2
 unfolding lineBytes lineNext
 returns-2 c =
@@ -35,33 +32,26 @@ returns-2 c =
     let no = lt-leb (a .at + 256) (length (a .out .now)) (omega arith) in
     (simp no, simp no)
 
--- src/line.rt:210:9
 shown-status-requires : tie.Need-shown-status-requires
 shown-status-requires c κs = search needs
 
--- src/line.rt:211:9
 shown-stamp-requires : tie.Need-shown-stamp-requires
 shown-stamp-requires c κs = search needs
 
--- src/line.rt:212:9
 number-of-requires : tie.Need-number-of-requires
 number-of-requires c κs = search needs
 
--- src/line.rt:213:9
 put-head-requires : tie.Need-put-head-requires
 put-head-requires c κs = search needs
 
--- src/line.rt:214:5
 put-answer-requires : tie.Need-put-answer-requires
 put-answer-requires c κs =
     let a = c .before .before .before .before .before .before .before .before .before .before .before .args in
     omega (arith, c .before .before .before .put-head .ensures .place, c .before .before .before .put-head .kept .0, c .before .before .before .before .before .before .before .before .if2 .left, c .before .before .before .before .before .before .before .before .before .if1 .left, length-head (a .number) (c .before .before .before .before .before .number-of .result) (c .before .before .before .before .before .before .before .shown-status .result) (c .before .before .before .before .before .before .shown-stamp .result))
 
--- src/line.rt:194:1
 same-length : tie.Need-same-length
 same-length c = search needs
 
--- src/line.rt:194:1
 returns-3 : tie.Need-returns-3
 returns-3 c =
     let a = c .before .before .before .before .before .before .before .before .before .before .before .before .before .before .args in

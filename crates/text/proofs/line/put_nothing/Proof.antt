@@ -6,23 +6,18 @@ use Rattle.text.proofs.line.put_nothing.Reads as reads
 use Rattle.text.proofs.line.put_nothing.Lts as lts
 use Rattle.text.proofs.line.put_byte.Reads as put-byte-reads
 
--- src/line.rt:135:9
 put-byte-requires : tie.Need-put-byte-requires
 put-byte-requires c κs = search needs
 
--- src/line.rt:136:9
 put-byte-requires-2 : tie.Need-put-byte-requires-2
 put-byte-requires-2 c κs = search needs
 
--- src/line.rt:137:5
 put-byte-requires-3 : tie.Need-put-byte-requires-3
 put-byte-requires-3 c κs = search needs
 
--- src/line.rt:131:1
 same-length : tie.Need-same-length
 same-length c = search needs
 
--- src/line.rt:131:1
 returns : tie.Need-returns
 returns c = then (c .before .before .before .before .before .before .before .before .before .before .put-byte .ensures) (then (c .before .before .before .before .before .before .put-byte2 .ensures) (c .before .before .put-byte3 .ensures))
 

@@ -7,23 +7,18 @@ use Rattle.text.proofs.line.put_pair.Lts as lts
 use Rattle.text.proofs.line.put_byte.Reads as put-byte-reads
 use Rattle.text.proofs.line.put_stamped.Reads as put-stamped-reads
 
--- src/line.rt:53:9
 put-byte-requires : tie.Need-put-byte-requires
 put-byte-requires c κs = search needs
 
--- src/line.rt:54:9
 put-byte-requires-2 : tie.Need-put-byte-requires-2
 put-byte-requires-2 c κs = search needs
 
--- src/line.rt:55:5
 put-stamped-requires : tie.Need-put-stamped-requires
 put-stamped-requires c κs = search needs
 
--- src/line.rt:49:1
 same-length : tie.Need-same-length
 same-length c = search needs
 
--- src/line.rt:49:1
 returns : tie.Need-returns
 returns c = then (c .before .before .before .before .before .before .before .before .before .before .put-byte .ensures) (then (c .before .before .before .before .before .before .put-byte2 .ensures) (c .before .before .put-stamped .ensures))
 

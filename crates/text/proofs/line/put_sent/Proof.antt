@@ -1,7 +1,7 @@
 use native.Mathlib.Omega.{arith}
 use mathlib.Core.List.{map}
 use Rattle.pairs.specs.Pair.{listed, listedKnown}
-use Rattle.site.specs.Effects.{Share, Command, Ack}
+use Rattle.site.specs.Answers.{Share, Command, Ack}
 use Rattle.text.specs.Puts.{then}
 use Rattle.text.specs.LineLaws.{puts-as, three-lists, length-shares, length-commands}
 use borrow.Author.Needs.{needs}
@@ -13,27 +13,22 @@ use Rattle.text.proofs.line.put_ack.Reads as put-ack-reads
 use Rattle.text.proofs.line.put_commands.Reads as put-commands-reads
 use Rattle.text.proofs.line.put_shares.Reads as put-shares-reads
 
--- src/line.rt:115:9
 put-shares-requires : tie.Need-put-shares-requires
 put-shares-requires c κs = search needs
 
--- src/line.rt:116:9
 put-commands-requires : tie.Need-put-commands-requires
 put-commands-requires c κs =
     let a = c .before .before .before .before .before .before .args in
     omega (arith, c .before .before .before .before .before .before .pre, c .before .before .before .put-shares .ensures .place, c .before .before .before .put-shares .kept .0, length-shares (a .i) (a .sent .shares))
 
--- src/line.rt:117:5
 put-ack-requires : tie.Need-put-ack-requires
 put-ack-requires c κs =
     let a = c .before .before .before .before .before .before .before .before .before .before .args in
     omega (arith, c .before .before .before .before .before .before .before .before .before .before .pre, c .before .before .before .put-commands .ensures .place, c .before .before .before .put-commands .kept .0, c .before .before .before .before .before .before .before .put-shares .ensures .place, c .before .before .before .before .before .before .before .put-shares .kept .0, length-shares (a .i) (a .sent .shares), length-commands (a .i) (a .sent .commands))
 
--- src/line.rt:108:1
 same-length : tie.Need-same-length
 same-length c = search needs
 
--- src/line.rt:108:1
 returns : tie.Need-returns
 returns c =
     let a = c .before .before .before .before .before .before .before .before .before .before .before .before .before .args in

@@ -10,27 +10,21 @@ use Rattle.text.proofs.line.put_byte.Reads as put-byte-reads
 use Rattle.text.proofs.line.put_stamped.Reads as put-stamped-reads
 use Rattle.text.proofs.put_number.Reads as put-number-reads
 
--- src/line.rt:63:9
 put-byte-requires : tie.Need-put-byte-requires
 put-byte-requires c κs = search needs
 
--- src/line.rt:64:9
 put-byte-requires-2 : tie.Need-put-byte-requires-2
 put-byte-requires-2 c κs = search needs
 
--- src/line.rt:65:9
 put-number-requires : tie.Need-put-number-requires
 put-number-requires c κs = search needs
 
--- src/line.rt:66:5
 put-stamped-requires : tie.Need-put-stamped-requires
 put-stamped-requires c κs = omega (arith, c .before .before .before .before .before .before .before .before .before .before .before .before .before .before .pre, c .before .before .before .before .before .before .before .before .before .before .before .before .before .before .good .0 .0, c .before .before .before .put-number .ensures .place, c .before .before .before .before .before .before .before .put-byte2 .ensures .place, c .before .before .before .before .before .before .before .before .before .before .before .put-byte .ensures .place, c .before .before .before .put-number .kept .0, c .before .before .before .before .before .before .before .put-byte2 .kept .0, c .before .before .before .before .before .before .before .before .before .before .before .put-byte .kept .0, length-decimal (c .before .before .before .before .before .before .before .before .before .before .before .before .before .before .args .i))
 
--- src/line.rt:59:1
 same-length : tie.Need-same-length
 same-length c = search needs
 
--- src/line.rt:59:1
 returns : tie.Need-returns
 returns c = then (c .before .before .before .before .before .before .before .before .before .before .before .before .before .before .put-byte .ensures) (then (c .before .before .before .before .before .before .before .before .before .before .put-byte2 .ensures) (then (c .before .before .before .before .before .before .put-number .ensures) (c .before .before .put-stamped .ensures)))
 

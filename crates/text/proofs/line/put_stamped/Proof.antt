@@ -8,31 +8,24 @@ use Rattle.text.proofs.line.letter.Reads as letter-reads
 use Rattle.text.proofs.line.put_byte.Reads as put-byte-reads
 use Rattle.text.proofs.put_number.Reads as put-number-reads
 
--- src/line.rt:42:9
 letter-requires : tie.Need-letter-requires
 letter-requires c κs = search needs
 
--- src/line.rt:43:9
 put-byte-requires : tie.Need-put-byte-requires
 put-byte-requires c κs = search needs
 
--- src/line.rt:44:9
 put-byte-requires-2 : tie.Need-put-byte-requires-2
 put-byte-requires-2 c κs = search needs
 
--- src/line.rt:45:24
 cast-put-number : tie.Need-cast-put-number
 cast-put-number c = search needs
 
--- src/line.rt:45:5
 put-number-requires : tie.Need-put-number-requires
 put-number-requires c κs = search needs
 
--- src/line.rt:38:1
 same-length : tie.Need-same-length
 same-length c = search needs
 
--- src/line.rt:38:1
 returns : tie.Need-returns
 returns c =
     rw (← (c .before .before .before .before .before .before .before .before .before .before .before .before .before .letter .ensures))

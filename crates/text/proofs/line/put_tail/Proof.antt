@@ -10,39 +10,31 @@ use Rattle.text.proofs.line.put_byte.Reads as put-byte-reads
 use Rattle.text.proofs.line.put_nothing.Reads as put-nothing-reads
 use Rattle.text.proofs.line.put_sent.Reads as put-sent-reads
 
--- src/line.rt:145:9
 put-sent-requires : tie.Need-put-sent-requires
 put-sent-requires c κs = search needs
 
--- src/line.rt:147:9
 put-nothing-requires : tie.Need-put-nothing-requires
 put-nothing-requires c κs = search needs
 
--- src/line.rt:147:9
 same-length : tie.Need-same-length
 same-length c = search needs
 
--- src/line.rt:147:9
 returns : tie.Need-returns
 returns c =
     let a = c .before .before .before .before .before .before .before .before .before .before .args in
     tail-none (a .i) (sentMessages (a .sent)) (c .before .before .before .before .before .before .before .put-sent .ensures) (c .before .before .before .before .if1 .taken) (c .before .before .put-nothing .ensures)
 
--- src/line.rt:149:5
 put-byte-requires : tie.Need-put-byte-requires
 put-byte-requires c κs = search needs
 
--- src/line.rt:150:5
 put-byte-requires-2 : tie.Need-put-byte-requires-2
 put-byte-requires-2 c κs =
     let a = c .before .before .before .before .before .before .before .before .before .before .before .args in
     omega (arith, c .before .before .before .before .before .before .before .before .before .before .before .pre, c .before .before .before .put-byte .kept .0, c .before .before .before .before .before .before .before .before .put-sent .ensures .place, c .before .before .before .before .before .before .before .before .put-sent .kept .0, length-sent (a .i) (a .sent .shares) (a .sent .commands) (a .sent .ack))
 
--- src/line.rt:141:1
 same-length-2 : tie.Need-same-length-2
 same-length-2 c = search needs
 
--- src/line.rt:141:1
 returns-2 : tie.Need-returns-2
 returns-2 c =
     let a = c .before .before .before .before .before .before .before .before .before .before .before .before .before .before .args in

@@ -5,15 +5,12 @@ use Rattle.text.proofs.line.shown_status.Reads as reads
 use Rattle.text.proofs.line.shown_status.Lts as lts
 use Rattle.text.proofs.line.letter.Reads as letter-reads
 
--- src/line.rt:151:9
 letter-requires : tie.Need-letter-requires
 letter-requires c κs = search needs
 
--- src/line.rt:147:1
 returns : tie.Need-returns
 returns c = simp (c .letter .ensures, c .before .if1 .taken)
 
--- src/line.rt:147:1
 returns-2 : tie.Need-returns-2
 returns-2 c = search needs
 

@@ -1,0 +1,3 @@
+-- The combining rule, and what it leaves.
+pub mod Combining
+pub mod CombiningLaws

@@ -1,0 +1,3 @@
+-- What each step does (Effects), and the events among them (Parts).
+pub mod Effects
+pub mod Parts

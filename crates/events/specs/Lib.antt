@@ -1,0 +1,2 @@
+-- What each event makes of a node.
+pub mod Events

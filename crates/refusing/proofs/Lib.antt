@@ -1,0 +1,2 @@
+-- Steps that a `match` names in its last arm only.
+pub mod Others

@@ -1,0 +1,3 @@
+-- Every step (Steps), and what its refusal decides (StepLaws).
+pub mod Steps
+pub mod StepLaws
