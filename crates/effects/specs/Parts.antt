@@ -1,4 +1,4 @@
--- The events among the steps, as the code goes through them. For the proofs alone.
+-- What the function for the events among the steps promises.
 use Rattle.steps.specs.declared.Step.{Step}
 use Rattle.steps.specs.declared.Step.the-variants.{Start, Tick, Report, Deliver, ShareTimeout, ResendTimeout, Command, Ack, Query, Down, Up}
 use Rattle.node.specs.declared.Node.{Node}

@@ -152,11 +152,7 @@ fn ack_known(node: Node, t: Dts, change: Known) -> Acted
 {
     match change {
         Known::Yes(pair) => events::ack(node, t, pair),
-        Known::No => Acted {
-            node,
-            shares: Pairs::Zero,
-            commands: Pairs::Zero,
-        },
+        Known::No => events::sends_nothing(node),
     }
 }
 
@@ -185,7 +181,7 @@ fn event(breaker: Breaker, node: Node, step: Step) -> Acted
             ack_known(node, t, change)
         }
         Step::Query { node: _, t } => events::query(node, t, breaker.pair),
-        _ => ack_known(node, Dts(0), Known::No),
+        _ => events::sends_nothing(node),
     }
 }
 

@@ -49,24 +49,24 @@ begun l t = quiet (record { phase = onceKnown l; store = empty t })
 unfoldable pub kept : Record → Pair → Pair → Resend
 kept rec r b = cond (same (rec .r) (rec .b) && not (same r b)) Off (rec .resend)
 
-unfoldable pub reportShares : Pair → Pair → Pair → Pairs
-reportShares old r b = cond (not (attempts old b) && attempts r b) (Two r (pair (r .status) (next (r .stamp)))) Zero
+unfoldable pub reportShares : Pair → Pair → Pair → Dts → Pairs
+reportShares old r b t = cond (not (attempts old b) && attempts r b) (Two (pair (r .status) t) (pair (r .status) (next t))) Zero
 
-unfoldable pub reportRunning : Record → Store → Pair → ℕ → Acted
-reportRunning rec store r number =
+unfoldable pub reportRunning : Record → Store → Pair → Dts → ℕ → Acted
+reportRunning rec store r t number =
     record {
-      node = runningAt (record { r = r; b = rec .b; number = Number number; resend = kept rec r (rec .b) }) (movedTo store (r .stamp));
-      shares = reportShares (rec .r) r (rec .b);
+      node = runningAt (record { r = r; b = rec .b; number = Number number; resend = kept rec r (rec .b) }) (movedTo store t);
+      shares = reportShares (rec .r) r (rec .b) t;
       commands = Zero;
     }
 
-abbrev reportPhase : Phase → Node → Pair → ℕ → Acted
-reportPhase Down node r number = quiet node
-reportPhase (Starting l) node r number = begun (record { r = Yes r; b = l .b; number = Number number }) (r .stamp)
-reportPhase (Running rec) node r number = reportRunning rec (node .store) r number
+abbrev reportPhase : Phase → Node → Pair → Dts → ℕ → Acted
+reportPhase Down node r t number = quiet node
+reportPhase (Starting l) node r t number = begun (record { r = Yes r; b = l .b; number = Number number }) t
+reportPhase (Running rec) node r t number = reportRunning rec (node .store) r t number
 
 unfoldable pub reported : Node → Dts → ℕ → ℕ → Acted
-reported node t status number = reportPhase (node .phase) node (pair status t) number
+reported node t status number = reportPhase (node .phase) node (pair status t) t number
 
 -- ---- Deliver: "Stores the share, in every running state."
 

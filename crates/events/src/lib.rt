@@ -16,7 +16,8 @@ use time::Dts;
 ghost use mathlib.Core.Path.{_≡_};
 ghost use Rattle.events.specs.Events.{quiet, onceKnown, begun, kept, reportShares, reportRunning, reported, delivered, shareTimedOut, again, resendTimedOut, later, laterThan, ackRunning, acked, queried, wentDown, wentUp};
 
-fn sends_nothing(node: Node) -> Acted
+// An event that leaves a node as it is given, and sends nothing.
+pub fn sends_nothing(node: Node) -> Acted
     ensures { λ out. ⌜ out ≡ quiet node ⌝ }
 {
     Acted {
@@ -76,24 +77,28 @@ fn keep_resend(rec: Record, r: Pair, b: Pair) -> Resend
 }
 
 // The shares of a report: two where the node enters Attempt.
-fn report_shares(old: Pair, r: Pair, b: Pair) -> Pairs
-    ensures { λ out. ⌜ out ≡ reportShares old r b ⌝ }
+fn report_shares(old: Pair, r: Pair, b: Pair, t: Dts) -> Pairs
+    ensures { λ out. ⌜ out ≡ reportShares old r b t ⌝ }
 {
     let was = is_attempt(old, b);
     let is = is_attempt(r, b);
     if !was & is {
+        let first = Pair {
+            status: r.status,
+            stamp: t,
+        };
         let second = Pair {
             status: r.status,
-            stamp: time::next(r.stamp),
+            stamp: time::next(t),
         };
-        Pairs::Two(r, second)
+        Pairs::Two(first, second)
     } else {
         Pairs::Zero
     }
 }
 
-fn report_running(rec: Record, store: Store, r: Pair, number: u32) -> Acted
-    ensures { λ out. ⌜ out ≡ reportRunning rec store r number ⌝ }
+fn report_running(rec: Record, store: Store, r: Pair, t: Dts, number: u32) -> Acted
+    ensures { λ out. ⌜ out ≡ reportRunning rec store r t number ⌝ }
 {
     let b = rec.b;
     let resend = keep_resend(rec, r, b);
@@ -103,8 +108,8 @@ fn report_running(rec: Record, store: Store, r: Pair, number: u32) -> Acted
         number: Last::Number(number),
         resend,
     };
-    let shares = report_shares(rec.r, r, b);
-    let moved = store.move_to(r.stamp);
+    let shares = report_shares(rec.r, r, b, t);
+    let moved = store.move_to(t);
     Acted {
         node: running(next, moved),
         shares,
@@ -129,7 +134,7 @@ pub fn report(node: Node, t: Dts, status: u8, number: u32) -> Acted
             };
             begin(told, t)
         }
-        Phase::Running(rec) => report_running(rec, store, r, number),
+        Phase::Running(rec) => report_running(rec, store, r, t, number),
     }
 }
 

@@ -1,4 +1,4 @@
--- Parts of the lists of tests, as the code goes through them. They are for the proofs alone.
+-- What the functions inside this crate promise: the lists of tests, cut as the code goes through them.
 use Prim.Native.Nat.{ℕ, _+_}
 use mathlib.Core.Bool.{Bool, true, not, _&&_}
 use mathlib.Core.List.{List, [], _∷_, _++_}

@@ -2,6 +2,11 @@
 use node::Node;
 use refusals::first;
 use refusals::test;
+use site::FIRST_G;
+use site::LAST_G;
+use site::LAST_START_G;
+use site::MOST_F;
+use site::MOST_K;
 use site::Site;
 use site::sound::is_actor_sound;
 use site::sound::is_site_sound;
@@ -191,7 +196,7 @@ fn refuse_command(site: Site, t: Dts, status: u8, stamp: Dts) -> u8
 fn refuse_tick(site: Site) -> u8
     ensures { λ out. ⌜ out ≡ refusal ((15, not (eqb (g site .0) lastG)) ∷ []) ⌝ }
 {
-    test(15, site.made.clock.0 != 1000000000)
+    test(15, site.made.clock.0 != LAST_G)
 }
 
 // The tests of a step after those of the site. A Start has none of these.
@@ -244,7 +249,8 @@ fn refuse_start(lent: usize, f: u8, k: u8, compromised: u16, status: u8, g: Dts)
     ensures { λ out. ⌜ out ≡ refusal (startTests lent f k compromised status g) ⌝ }
 {
     let n = nodes(f, k);
-    let numbers = (f <= 4) & (k <= 3) & (status <= 1) & ((2 <= g.0) & (g.0 <= 999999000));
+    let clock = (FIRST_G <= g.0) & (g.0 <= LAST_START_G);
+    let numbers = (f <= MOST_F) & (k <= MOST_K) & (status <= 1) & clock;
     let below = senders::is_within(compromised, n);
     let few = senders::how_many(compromised) <= f as u32;
     test(1, numbers & below & few & (n as usize <= lent))

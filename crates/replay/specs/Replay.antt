@@ -6,11 +6,11 @@ use mathlib.Core.List.{List, [], _∷_, _++_}
 use lib.Dec.{eqb, leb}
 use lib.ListN.{length, drop}
 use Rattle.steps.specs.declared.Step.{Step}
-use Rattle.log.specs.declared.reader.Opened.{Opened}
-use Rattle.log.specs.declared.reader.Opened.the-variants.{Version, NoVersion}
-use Rattle.log.specs.declared.reader.Found.{Found}
-use Rattle.log.specs.declared.reader.Found.the-variants.{Record, End, Cut, Malformed}
-use Rattle.log.specs.Reading.{openedAs, readAt}
+use Rattle.reader.specs.declared.Opened.{Opened}
+use Rattle.reader.specs.declared.Opened.the-variants.{Version, NoVersion}
+use Rattle.reader.specs.declared.Found.{Found}
+use Rattle.reader.specs.declared.Found.the-variants.{Record, End, Cut, Malformed}
+use Rattle.reader.specs.Reading.{openedAs, readAt}
 use Rattle.text.specs.Lines.{longestLine}
 use Rattle.run.specs.declared.Run.{Run}
 use Rattle.run.specs.declared.Ran.{Ran}

@@ -41,11 +41,11 @@ fresh-next : (t : Dts) → t .0 ≤ latestClock → fresh (next t) t ≡ true
 fresh-next t m =
     rw (next-after t m) (simp (le-leb (t .0 - window) (t .0 + 1) (omega arith), le-leb (t .0 + 1) (t .0 + window) (omega arith)))
 
-near-report : (old b : Pair) (status : ℕ) (t : Dts) → status ≤ 1 → t .0 ≤ latestClock → Near t (reportShares old (pair status t) b)
+near-report : (old r b : Pair) (t : Dts) → r .status ≤ 1 → t .0 ≤ latestClock → Near t (reportShares old r b t)
 unfolding reportShares
-near-report old b status t a m = go (not (attempts old b) && attempts (pair status t) b)
+near-report old r b t a m = go (not (attempts old b) && attempts r b)
   where
-    go : (x : Bool) → Near t (cond x (Two (pair status t) (pair status (next t))) Zero)
+    go : (x : Bool) → Near t (cond x (Two (pair (r .status) t) (pair (r .status) (next t))) Zero)
     go true = ((a, fresh-self t), (a, fresh-next t m))
     go false = tt
 
@@ -72,7 +72,7 @@ module _ (f j : ℕ) (s : Store) (own : List Accepted) (t : Dts) (room-for : j <
   keeps-report status number (Running rec) a up fits =
       shares-on f j (Report j t status number) t rec _ s _ _ own room-for fits
       (record { told-life = λ sent. refl; told-clock = λ sent. refl; told-report = λ sent. (refl, a) })
-      (λ sent i A T. has-cond (eqb i j) (listed (sent .shares)) A T) l m (near-report (rec .r) (rec .b) status t a m)
+      (λ sent i A T. has-cond (eqb i j) (listed (sent .shares)) A T) l m (near-report (rec .r) _ (rec .b) t a m)
 
   pub keeps-deliver : (sender status : ℕ) (T : Dts) (p : Phase) → sender < room → status ≤ 1 → fresh T t ≡ true → isRunning (at p) ≡ true → Fits f j p s own
       → FitsAfter f j (Deliver sender j t status T) (delivered (at p) t sender status T) own

@@ -8,6 +8,17 @@ use pairs::Known;
 use pairs::Pairs;
 use store::Store;
 
+pub const MOST_F: u8 = 4;
+
+pub const MOST_K: u8 = 3;
+
+// The site clock begins at the first of these to the second, and goes to the third.
+pub const FIRST_G: u32 = 2;
+
+pub const LAST_START_G: u32 = 999999000;
+
+pub const LAST_G: u32 = 1000000000;
+
 // The site's clock g is the clock of `made`, the fresh shares that correct nodes have made since Start.
 pub struct Site {
     pub started: bool,

@@ -1,4 +1,8 @@
 // Refusal 16: whether a site, and the record of the acting node, are in their ranges.
+use crate::FIRST_G;
+use crate::LAST_G;
+use crate::MOST_F;
+use crate::MOST_K;
 use crate::Site;
 use node::Node;
 ghost use mathlib.Core.Path.{_≡_};
@@ -15,7 +19,7 @@ fn are_numbers_sound(site: Site) -> bool
     ensures { λ out. ⌜ out ≡ numbersSound site ⌝ }
 {
     let g = site.made.clock.0;
-    (site.f <= 4) & (site.k <= 3) & (2 <= g) & (g <= 1000000000)
+    (site.f <= MOST_F) & (site.k <= MOST_K) & (FIRST_G <= g) & (g <= LAST_G)
 }
 
 fn are_sets_sound(site: Site, n: u32) -> bool

@@ -1,6 +1,7 @@
 // The share store: for each action and each stamp that is fresh at the store's clock, the set of senders whose share is held. The store
 // knows its clock, and a share is held only while its stamp is fresh there.
 use time::Dts;
+use time::WINDOW;
 ghost use Prim.Native.Nat.{_+_, _*_, _-_, _<_};
 ghost use mathlib.Core.Path.{_≡_};
 ghost use Rattle.store.specs.Store.{placeOf, empty, put, movedFrom, movedTo, sendersOf, storeWithin};
@@ -30,7 +31,7 @@ fn place_of(clock: Dts, action: u8, stamp: Dts) -> Place
         return Place::Nowhere;
     }
     if time::is_fresh(stamp, clock) {
-        let offset = stamp.0 as usize + 2 - clock.0 as usize;
+        let offset = stamp.0 as usize + WINDOW as usize - clock.0 as usize;
         Place::At(action as usize * 5 + offset)
     } else {
         Place::Nowhere
@@ -43,10 +44,10 @@ fn fresh_stamp(clock: Dts, i: u64) -> u64
     ensures { λ out. ⌜ out ≡ freshStamp clock i ⌝ }
 {
     let above = clock.0 as u64 + i;
-    if above < 2 {
+    if above < WINDOW {
         return 0;
     }
-    above - 2
+    above - WINDOW
 }
 
 impl Store {

@@ -16,6 +16,9 @@ pub const LONGEST_INTERVAL: u64 = 10000;
 
 pub const DEFAULT_INTERVAL: u64 = 2000;
 
+// How far a fresh stamp is from the clock at most.
+pub const WINDOW: u64 = 2;
+
 // The largest stamp that discretising gives.
 pub const LAST_STAMP: u64 = 1000000000;
 
@@ -69,7 +72,7 @@ pub fn is_fresh(stamp: Dts, clock: Dts) -> bool
 {
     let s = stamp.0 as u64;
     let t = clock.0 as u64;
-    (t <= s + 2) & (s <= t + 2)
+    (t <= s + WINDOW) & (s <= t + WINDOW)
 }
 
 // The stamp after one: stamps have 32 bits and wrap, which no step of a site comes near.

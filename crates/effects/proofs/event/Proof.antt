@@ -10,6 +10,7 @@ use Rattle.events.proofs.deliver.Reads as deliver-reads
 use Rattle.events.proofs.query.Reads as query-reads
 use Rattle.events.proofs.report.Reads as report-reads
 use Rattle.events.proofs.resend_timeout.Reads as resend-timeout-reads
+use Rattle.events.proofs.sends_nothing.Reads as sends-nothing-reads
 use Rattle.events.proofs.share_timeout.Reads as share-timeout-reads
 use Rattle.effects.proofs.ack_known.Reads as ack-known-reads
 
@@ -52,8 +53,8 @@ enum-known-step-6 c = search needs
 query-requires : tie.Need-query-requires
 query-requires c κs = search needs
 
-ack-known-requires-2 : tie.Need-ack-known-requires-2
-ack-known-requires-2 c κs = search needs
+sends-nothing-requires : tie.Need-sends-nothing-requires
+sends-nothing-requires c κs = search needs
 
 returns : tie.Need-returns
 returns c = rw (c .before .before .step .given .1) (c .report .ensures)
@@ -76,7 +77,7 @@ returns-6 c = rw (c .before .before .step6 .given .1) (c .query .ensures)
 returns-7 : tie.Need-returns-7
 returns-7 c =
     let a = c .before .before .args in
-    c .ack-known2 .ensures ∙ no-event (a .breaker) (a .node) (a .step) (c .before .match .keys7)
+    c .sends-nothing .ensures ∙ no-event (a .breaker) (a .node) (a .step) (c .before .match .keys7)
 
 pub event-spec : {M : Type 1} → statement M
 event-spec =
@@ -95,7 +96,7 @@ event-spec =
     ack-known-requires
     enum-known-step-6
     query-requires
-    ack-known-requires-2
+    sends-nothing-requires
     returns
     returns-2
     returns-3

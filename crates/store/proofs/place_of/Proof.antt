@@ -30,11 +30,11 @@ sub-offset c =
     let a = c .before .before .before .before .before .args in
     fresh-low (a .stamp) (a .clock) (sym (c .before .before .before .is-fresh .ensures) ∙ c .before .before .if2 .taken)
 
-mul-t10 : tie.Need-mul-t10
-mul-t10 c = search needs
+mul-t11 : tie.Need-mul-t11
+mul-t11 c = search needs
 
-add-t9 : tie.Need-add-t9
-add-t9 c = search needs
+add-t10 : tie.Need-add-t10
+add-t10 c = search needs
 
 returns-2 : tie.Need-returns-2
 unfolding placeOf hasPlace
@@ -54,7 +54,7 @@ place-of-spec =
     add-offset
     cast-offset-2
     sub-offset
-    mul-t10
-    add-t9
+    mul-t11
+    add-t10
     returns-2
     returns-3)

@@ -1,0 +1,3 @@
+-- What a reader gives.
+pub mod Reading
+pub mod ReadLaws
