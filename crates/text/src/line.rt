@@ -17,6 +17,9 @@ ghost use Rattle.text.specs.Decimal.{decimal};
 ghost use Rattle.text.specs.Line.{letter, pairText, afterCommas, tailText, shownStatus, shownStamp};
 ghost use Rattle.text.specs.Lines.{sentMessages, lineText, lineBytes, lineNext};
 
+// Room for this many bytes is asked for before a line: no line is longer.
+pub const LONGEST_LINE: usize = 256;
+
 fn letter(status: u8) -> u8
     ensures { λ out. ⌜ out ≡ letter status ⌝ }
 {
@@ -194,10 +197,10 @@ fn shown_stamp(site: Site) -> u32
 pub fn put_line(out: &mut [u8], at: usize, number: u64, site: Site, i: u8, answer: Answer) -> usize
     ensures { λ r. ⌜ (now (out .exit) ≡ lineBytes (now (out .entry)) at (lineText number site i answer)) × (r ≡ lineNext (now (out .entry)) at (lineText number site i answer)) ⌝ }
 {
-    if out.len() < 256 {
+    if out.len() < LONGEST_LINE {
         return at;
     }
-    if out.len() - 256 < at {
+    if out.len() - LONGEST_LINE < at {
         return at;
     }
     let status = shown_status(site);
