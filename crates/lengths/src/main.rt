@@ -1,4 +1,4 @@
-// Tables of exactly n records, of one less, of none and of more than n, each with what is answered.
+// Tables of exactly n records, of one less, of none and of more than n: for each what is answered, and how many of twelve records were set.
 use libc::STDOUT_FILENO;
 use node::Node;
 use site::Answer;
@@ -10,6 +10,9 @@ ghost use Prim.Native.Nat.{_≤_};
 fn say(text: &[u8], number: u64) {
     io::write_all(STDOUT_FILENO, text);
     io::print_decimal(STDOUT_FILENO, number);
+}
+
+fn end_line() {
     io::write_all(STDOUT_FILENO, b"\n");
 }
 
@@ -20,77 +23,67 @@ fn number_of(answer: Answer) -> u64 {
     }
 }
 
-fn one_if(down: bool) -> u64
+// A record that was down and is not any more was set.
+fn one_if_set(node: Node) -> u64
     ensures { λ out. ⌜ out ≤ 1 ⌝ }
 {
-    if down { 1 } else { 0 }
+    if node::asked::is_down(node) { 0 } else { 1 }
 }
 
-// How many of the three records belong to nodes that are down.
-fn down_in(nodes: [Node; 3]) -> u64 {
-    let a = one_if(node::asked::is_down(nodes[0]));
-    let b = one_if(node::asked::is_down(nodes[1]));
-    let c = one_if(node::asked::is_down(nodes[2]));
-    a + b + c
+fn set_in(n: [Node; 12]) -> u64 {
+    let first = one_if_set(n[0]) + one_if_set(n[1]) + one_if_set(n[2]) + one_if_set(n[3]);
+    let next = one_if_set(n[4]) + one_if_set(n[5]) + one_if_set(n[6]) + one_if_set(n[7]);
+    let last = one_if_set(n[8]) + one_if_set(n[9]) + one_if_set(n[10]) + one_if_set(n[11]);
+    first + next + last
 }
 
-fn start(f: u8, k: u8) -> Step {
-    Step::Start {
+// A Start with so many records of nodes that are down.
+fn start_with(f: u8, k: u8, count: usize) -> Site {
+    let run = run::begin();
+    let site = run.site;
+    let down = events::down();
+    let step = Step::Start {
         f,
         k,
         compromised: 0,
         status: 0,
         g: Dts(100),
-    }
+    };
+    let whole = lent::step_within(site, [down; 12], count, step);
+    let answer = whole.answer;
+    let nodes = whole.nodes;
+    say(b"Start, n ", site::sound::nodes(f, k) as u64);
+    say(b", records ", count as u64);
+    say(b": ", number_of(answer));
+    say(b", set ", set_in(nodes));
+    end_line();
+    whole.site
 }
 
-fn with_three(site: Site) {
+// A Tick of a site that was started with enough records, and is then lent so many.
+fn tick_with(site: Site, count: usize) {
     let down = events::down();
-    let exactly = lent::step_in_three(site, [down; 3], start(1, 0));
-    let answer = exactly.answer;
-    say(b"Start, n = 3, three records: ", number_of(answer));
-    let nodes = exactly.nodes;
-    say(b"records still down: ", down_in(nodes));
-    let short = lent::step_in_three(site, [down; 3], start(1, 1));
-    let refused = short.answer;
-    say(b"Start, n = 4, three records: ", number_of(refused));
-    let left = short.nodes;
-    say(b"records still down: ", down_in(left));
-    let more = lent::step_in_three(site, [down; 3], start(0, 0));
-    let done = more.answer;
-    say(b"Start, n = 1, three records: ", number_of(done));
-    let rest = more.nodes;
-    say(b"records still down: ", down_in(rest));
-}
-
-fn with_none(site: Site) {
-    let started = lent::step_in_empty(site, [], start(0, 0));
-    let answer = started.answer;
-    say(b"Start, n = 1, no record: ", number_of(answer));
-}
-
-// A site that was started with enough records, and is then lent fewer.
-fn fewer_later(site: Site) {
-    let down = events::down();
-    let enough = lent::step_in(site, [down; 12], start(1, 1));
-    let answer = enough.answer;
-    say(b"Start, n = 4, twelve records: ", number_of(answer));
-    let started = enough.site;
-    let fewer = lent::step_in_three(started, [down; 3], Step::Tick);
-    let refused = fewer.answer;
-    say(b"then Tick, three records: ", number_of(refused));
-    let none = lent::step_in_empty(started, [], Step::Tick);
-    let again = none.answer;
-    say(b"then Tick, no record: ", number_of(again));
-    let all = lent::step_in(site, [down; 12], start(4, 3));
-    let done = all.answer;
-    say(b"Start, n = 12, twelve records: ", number_of(done));
+    let whole = lent::step_within(site, [down; 12], count, Step::Tick);
+    let answer = whole.answer;
+    say(b"then Tick, records ", count as u64);
+    say(b": ", number_of(answer));
+    end_line();
 }
 
 fn main() {
-    let run = run::begin();
-    let site = run.site;
-    with_three(site);
-    with_none(site);
-    fewer_later(site);
+    start_with(0, 0, 0);
+    start_with(0, 0, 1);
+    start_with(0, 0, 12);
+    start_with(1, 0, 0);
+    start_with(1, 0, 2);
+    start_with(1, 0, 3);
+    start_with(1, 0, 4);
+    start_with(4, 3, 11);
+    start_with(4, 3, 12);
+    start_with(4, 3, 13);
+    let started = start_with(1, 1, 4);
+    tick_with(started, 4);
+    tick_with(started, 12);
+    tick_with(started, 3);
+    tick_with(started, 0);
 }

@@ -1,9 +1,10 @@
 -- "The table of nodes is lent by the caller, one record for each node; a step changes the record of the node it names and no other. Tick and
 -- Command change none. Start sets the first n and leaves the rest."
 use Prim.Native.Nat.{ℕ}
+use mathlib.Core.Path.{_≡_}
 use mathlib.Core.List.{List, _++_}
 use mathlib.Core.Option.{Option, none, some}
-use lib.ListN.{length, getD, set, drop}
+use lib.ListN.{length, getD, set, take, drop}
 use Rattle.tables.specs.Tables.{table}
 use Rattle.node.specs.declared.Node.{Node}
 use Rattle.events.specs.Events.{wentDown}
@@ -52,3 +53,14 @@ tableAfterAnswer (Refused number) step records node = records
 
 unfoldable pub tableAfter : Site → List Node → Step → List Node
 tableAfter site records step = tableAfterAnswer (outOf site records step .answer) step records (outOf site records step .node)
+
+-- what is answered, and the site and the records afterwards
+abbrev pub Said : Site → List Node → Step → Answer → Site → List Node → Type 0
+Said site records step answer next left =
+    (answer ≡ outOf site records step .answer) × ((next ≡ outOf site records step .site) × (left ≡ tableAfter site records step))
+
+-- the same where the first records alone are lent: the others stay
+abbrev pub SaidWithin : Site → List Node → ℕ → Step → Answer → Site → List Node → Type 0
+SaidWithin site records count step answer next left =
+    (answer ≡ outOf site (take count records) step .answer)
+    × ((next ≡ outOf site (take count records) step .site) × (left ≡ tableAfter site (take count records) step ++ drop count records))

@@ -1,13 +1,14 @@
 -- Laws of the lent table: records that are made one by one, and what a step that is done has found in the table.
 use Prim.Native.Nat.{ℕ, zero, suc, _≤_, _<_}
-use mathlib.Core.Path.{_≡_, refl, ap, subst}
+use mathlib.Core.Path.{_≡_, refl, sym, ap, ap₂, subst, _∙_}
 use mathlib.Core.Bool.{Bool, true, false, _&&_, and-eq-true-iff}
-use mathlib.Core.List.{List, [], _∷_, _++_}
+use mathlib.Core.List.{List, [], _∷_, _++_, append-nil}
 use mathlib.Core.Option.{Option, none, some}
 use native.Mathlib.Nat.{not-suc-le-zero, le-of-suc-le-suc}
 use native.Mathlib.Omega.{arith}
 use lib.Dec.{leb}
-use lib.ListN.{length, set, drop}
+use lib.ListN.{length, set, take, drop, drop-of-length-le}
+use lib.Seq.{take-all}
 use borrow.Author.Tests.{ltb-true, leb-true}
 use Rattle.refusals.specs.Tests.{Test, refusal, passed, done-passed, each-passed}
 use Rattle.tables.specs.Tables.{table}
@@ -23,7 +24,7 @@ use Rattle.effects.specs.Effects.{firstRecord, effectOf}
 use Rattle.stepping.specs.StepLaws.{by-tests}
 use Rattle.site.specs.Answers.{isDone}
 use Rattle.breaker.specs.Breaker.{breakerSound}
-use Rattle.lent.specs.Lent.{recordOf, outOf, firstRecords}
+use Rattle.lent.specs.Lent.{recordOf, outOf, firstRecords, tableAfter, Said, SaidWithin}
 use Rattle.steps.specs.Actor.{actor}
 use Rattle.lent.specs.InTurn.{startsOf, beginsOf}
 
@@ -131,3 +132,27 @@ begins-within site records step =
     let most = starts-within site (length records) (recordOf (actor step) records) step e in
     (omega (arith, least, most .0), omega (arith, least, most .1)))
     (λ number. (omega arith, omega arith))
+
+-- ---- the first records of a table
+
+module _ (site : Site) (records : List Node) (step : Step) (answer : Answer) (next : Site) (left : List Node) where
+  -- as many as there are, or more, are all of them
+  pub all-lent : (count : ℕ) → length records ≤ count → SaidWithin site records count step answer next left → Said site records step answer next left
+  all-lent count l said =
+      let all = take-all count records l in (
+        said .0 ∙ ap (λ (rs : List Node). outOf site rs step .answer) all,
+        (
+          said .1 .0 ∙ ap (λ (rs : List Node). outOf site rs step .site) all,
+          said .1 .1 ∙ ap₂ (λ (rs rest : List Node). tableAfter site rs step ++ rest) all (drop-of-length-le records l) ∙ append-nil _,
+        ),
+      )
+
+  pub more-lent : (count : ℕ) → length records ≤ count → Said site records step answer next left → SaidWithin site records count step answer next left
+  more-lent count l said =
+      let all = sym (take-all count records l) in (
+        said .0 ∙ ap (λ (rs : List Node). outOf site rs step .answer) all,
+        (
+          said .1 .0 ∙ ap (λ (rs : List Node). outOf site rs step .site) all,
+          said .1 .1 ∙ sym (append-nil _) ∙ ap₂ (λ (rs rest : List Node). tableAfter site rs step ++ rest) all (sym (drop-of-length-le records l)),
+        ),
+      )

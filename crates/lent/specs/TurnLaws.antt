@@ -18,7 +18,7 @@ use Rattle.site.specs.declared.Out.{Out}
 use Rattle.site.specs.Site.{nodes}
 use Rattle.effects.specs.Effects.{effectOf}
 use Rattle.stepping.specs.Steps.{stepped}
-use Rattle.lent.specs.Lent.{recordOf, outOf, firstRecords, tableAfterAnswer, tableAfter}
+use Rattle.lent.specs.Lent.{recordOf, outOf, firstRecords, tableAfterAnswer, tableAfter, Said}
 use Rattle.steps.specs.Actor.{actor}
 use Rattle.lent.specs.InTurn.{indexOf, outAt, beginsOf, compromisedOf}
 use Rattle.lent.specs.LentLaws.{begun-none, begins-within}
@@ -63,12 +63,9 @@ made-and-written site records step =
     (λ e. after-done (effectOf site (recordOf (actor step) records) step .answer) (effect-done site (recordOf (actor step) records) step) step records (effectOf site (recordOf (actor step) records) step .node))
     (λ number. sym (begun-none (compromisedOf step) (set records (indexOf (actor step) (length records)) (recordOf (actor step) records))) ∙ same-records (actor step) records)
 
--- what is said of an answer, a site and a list once the record is written back, and at the end
+-- what is said of an answer, a site and a list once the record is written back
 abbrev pub Acted : Site → List Node → ℕ → Step → Answer → Site → List Node → Type 0
 Acted site records i step answer next written = (answer ≡ outAt site records i step .answer) × ((next ≡ outAt site records i step .site) × (written ≡ set records i (outAt site records i step .node)))
-
-abbrev pub Said : Site → List Node → Step → Answer → Site → List Node → Type 0
-Said site records step answer next left = (answer ≡ outOf site records step .answer) × ((next ≡ outOf site records step .site) × (left ≡ tableAfter site records step))
 
 module _ (site : Site) (records : List Node) (step : Step) (i n : ℕ) (answer : Answer) (next : Site) (written : List Node)
     (i-is : i ≡ indexOf (actor step) (length records)) (acted : Acted site records i step answer next written) (begins : n ≡ beginsOf answer step) where

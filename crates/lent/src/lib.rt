@@ -10,7 +10,7 @@ ghost use Prim.Native.Nat.{_<_, _≤_};
 ghost use lib.ListN.{length, getD, set};
 ghost use Rattle.events.specs.Events.{wentDown};
 ghost use Rattle.effects.specs.Effects.{firstRecord};
-ghost use Rattle.lent.specs.Lent.{firstRecords, outOf, tableAfter};
+ghost use Rattle.lent.specs.Lent.{firstRecords, Said, SaidWithin};
 ghost use Rattle.steps.specs.Actor.{actor};
 ghost use Rattle.lent.specs.InTurn.{indexOf, startsOf, beginsOf, compromisedOf, outAt};
 
@@ -135,7 +135,7 @@ fn fill(nodes: &mut [Node], n: usize, compromised: u16)
 
 // A step of a site with its table. A refused step, a Tick and a Command leave every record as it was.
 pub fn step(site: Site, nodes: &mut [Node], step: Step) -> Told
-    ensures { λ out. ⌜ (out .answer ≡ outOf site (now (nodes .entry)) step .answer) × ((out .site ≡ outOf site (now (nodes .entry)) step .site) × (now (nodes .exit) ≡ tableAfter site (now (nodes .entry)) step)) ⌝ }
+    ensures { λ out. ⌜ Said site (now (nodes .entry)) step (out .answer) (out .site) (now (nodes .exit)) ⌝ }
 {
     let i = place(step, nodes.len());
     let told = act(nodes, site, i, step);
@@ -151,11 +151,12 @@ pub struct Whole {
     pub nodes: [Node; 12],
 }
 
-// The same with the table by value: whoever calls this holds no reference to it.
-pub fn step_in(site: Site, mut nodes: [Node; 12], step: Step) -> Whole
-    ensures { λ out. ⌜ (out .answer ≡ outOf site nodes step .answer) × ((out .site ≡ outOf site nodes step .site) × (out .nodes ≡ tableAfter site nodes step)) ⌝ }
+// A step with the first `count` of twelve records, by value: here a table in a local is lent.
+fn step_first(site: Site, mut nodes: [Node; 12], count: usize, step: Step) -> Whole
+    requires { ⌜ count ≤ 12 ⌝ }
+    ensures { λ out. ⌜ (length nodes ≡ 12) × SaidWithin site nodes count step (out .answer) (out .site) (out .nodes) ⌝ }
 {
-    let told = crate::step(site, &mut nodes, step);
+    let told = crate::step(site, &mut nodes[..count], step);
     Whole {
         answer: told.answer,
         site: told.site,
@@ -163,38 +164,19 @@ pub fn step_in(site: Site, mut nodes: [Node; 12], step: Step) -> Whole
     }
 }
 
-// The same with a table of three records, which is shorter than n where n is above three.
-pub struct Three {
-    pub answer: Answer,
-    pub site: Site,
-    pub nodes: [Node; 3],
-}
-
-pub fn step_in_three(site: Site, mut nodes: [Node; 3], step: Step) -> Three
-    ensures { λ out. ⌜ (out .answer ≡ outOf site nodes step .answer) × ((out .site ≡ outOf site nodes step .site) × (out .nodes ≡ tableAfter site nodes step)) ⌝ }
+// The step with the table by value: whoever calls this holds no reference to it.
+pub fn step_in(site: Site, nodes: [Node; 12], step: Step) -> Whole
+    ensures { λ out. ⌜ Said site nodes step (out .answer) (out .site) (out .nodes) ⌝ }
 {
-    let told = crate::step(site, &mut nodes, step);
-    Three {
-        answer: told.answer,
-        site: told.site,
-        nodes,
-    }
+    step_first(site, nodes, 12, step)
 }
 
-// The same with a table of no record, shorter than any n.
-pub struct Empty {
-    pub answer: Answer,
-    pub site: Site,
-    pub nodes: [Node; 0],
-}
-
-pub fn step_in_empty(site: Site, mut nodes: [Node; 0], step: Step) -> Empty
-    ensures { λ out. ⌜ (out .answer ≡ outOf site nodes step .answer) × ((out .site ≡ outOf site nodes step .site) × (out .nodes ≡ tableAfter site nodes step)) ⌝ }
+// The same with a table of the first `count` records alone, which may be fewer than n; above twelve there are no more.
+pub fn step_within(site: Site, nodes: [Node; 12], count: usize, step: Step) -> Whole
+    ensures { λ out. ⌜ SaidWithin site nodes count step (out .answer) (out .site) (out .nodes) ⌝ }
 {
-    let told = crate::step(site, &mut nodes, step);
-    Empty {
-        answer: told.answer,
-        site: told.site,
-        nodes,
+    if count < 12 {
+        return step_first(site, nodes, count, step);
     }
+    step_first(site, nodes, 12, step)
 }

@@ -46,7 +46,8 @@ use Rattle.lent.specs.declared.Told.{Told}
 use Rattle.lent.specs.Lent.{firstRecords}
 use Rattle.steps.specs.Actor.{actor}
 use Rattle.lent.specs.InTurn.{indexOf, beginsOf, compromisedOf}
-use Rattle.lent.specs.TurnLaws.{Acted, Said, asked, all-said}
+use Rattle.lent.specs.Lent.{Said}
+use Rattle.lent.specs.TurnLaws.{Acted, asked, all-said}
 use Rattle.lent.proofs.Walk.{var, fvar, sets, lands-told, ends}
 use Rattle.lent.proofs.Shut.{headOf, opened, by-names, Of}
 use Rattle.lent.proofs.Rows.{toldTy, toldVal, told-parts}
