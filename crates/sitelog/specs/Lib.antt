@@ -1,0 +1,3 @@
+-- What the program moves (Moving), and laws of it.
+pub mod Moving
+pub mod MovingLaws
