@@ -1,3 +1,4 @@
--- What the program moves (Moving), and laws of it.
+-- What the program moves (Moving), laws of it, and what it prints (Printing).
 pub mod Moving
 pub mod MovingLaws
+pub mod Printing
