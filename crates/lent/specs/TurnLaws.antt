@@ -64,11 +64,11 @@ made-and-written site records step =
     (λ number. sym (begun-none (compromisedOf step) (set records (indexOf (actor step) (length records)) (recordOf (actor step) records))) ∙ same-records (actor step) records)
 
 -- what is said of an answer, a site and a list once the record is written back
-abbrev pub Acted : Site → List Node → ℕ → Step → Answer → Site → List Node → Type 0
-Acted site records i step answer next written = (answer ≡ outAt site records i step .answer) × ((next ≡ outAt site records i step .site) × (written ≡ set records i (outAt site records i step .node)))
+abbrev pub SaidAt : Site → List Node → ℕ → Step → Answer → Site → List Node → Type 0
+SaidAt site records i step answer next written = (answer ≡ outAt site records i step .answer) × ((next ≡ outAt site records i step .site) × (written ≡ set records i (outAt site records i step .node)))
 
 module _ (site : Site) (records : List Node) (step : Step) (i n : ℕ) (answer : Answer) (next : Site) (written : List Node)
-    (i-is : i ≡ indexOf (actor step) (length records)) (acted : Acted site records i step answer next written) (begins : n ≡ beginsOf answer step) where
+    (i-is : i ≡ indexOf (actor step) (length records)) (acted : SaidAt site records i step answer next written) (begins : n ≡ beginsOf answer step) where
   same-out : outAt site records i step ≡ outOf site records step
   same-out = ap (λ (j : ℕ). outAt site records j step) i-is ∙ out-at-place site records step
 

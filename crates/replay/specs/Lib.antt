@@ -1,6 +1,7 @@
 -- Runs over logs: that each is a sequence of steps (Replay), and the third demand for each (Promised), with a log in which a change is accepted (Example);
--- and that it does not matter how a log is cut into blocks (Cutting).
+-- and that it does not matter how a log is cut into blocks (Leading, Cutting).
 pub mod Replay
 pub mod Promised
+pub mod Leading
 pub mod Cutting
 pub mod Example

@@ -78,13 +78,13 @@ module _ (f j : ℕ) where
       Fits (finished event j f .node .phase) (finished event j f .node .store) (doneWith step (sentBy (finished event j f)) ∷ own)
 
   -- what a step is to the history, whatever was sent in it
-  pub record Told (step : Step) (t : Dts) (A : ℕ) (own : List Accepted) : Type 0 where
+  pub record ToldBy (step : Step) (t : Dts) (A : ℕ) (own : List Accepted) : Type 0 where
     pub told-life : (sent : Sent) → life (doneWith step sent ∷ own) ≡ doneWith step sent ∷ life own
     pub told-clock : (sent : Sent) → clock (doneWith step sent ∷ own) ≡ some t
     pub told-report : (sent : Sent) → (lastReport (doneWith step sent ∷ own) ≡ some A) × (A ≤ 1)
 
   -- still running, in one life
-  runs-on : (step : Step) (t : Dts) (A : ℕ) (own : List Accepted) (sent : Sent) → Told step t A own → runs own ≡ true → runs (doneWith step sent ∷ own) ≡ true
+  runs-on : (step : Step) (t : Dts) (A : ℕ) (own : List Accepted) (sent : Sent) → ToldBy step t A own → runs own ≡ true → runs (doneWith step sent ∷ own) ≡ true
   runs-on step t A own sent told e =
       let a : Accepted = doneWith step sent in
       let p = and-eq-true-iff (oneOf (report ∷ []) (life own)) (oneOf (ack ∷ query ∷ []) (life own)) .0 e in
@@ -106,7 +106,7 @@ module _ (f j : ℕ) where
 
   -- A running node after an event that leaves it running: its store is what it was, at the later clock, with what the step brought.
   goes-on : (step : Step) (sent : Sent) (t : Dts) (old rec : Record) (s after : Store) (own : List Accepted)
-      → RunningFits old s own → Told step t (rec .r .status) own → after .clock ≡ t → s .clock .0 ≤ t .0 → t .0 ≤ latestClock
+      → RunningFits old s own → ToldBy step t (rec .r .status) own → after .clock ≡ t → s .clock .0 ≤ t .0 → t .0 ≤ latestClock
       → ((i A : ℕ) (T : Dts) → held after A T i ≡ (has (brought i j (doneWith step sent)) A T || held (movedTo s t) A T i))
       → ((i A : ℕ) (T : Dts) → has (brought i j (doneWith step sent)) A T ≡ true → fresh T t ≡ true)
       → RunningFits (combined rec after f .rec) after (doneWith step sent ∷ own)
@@ -154,7 +154,7 @@ module _ (f j : ℕ) where
       (sent : Sent) (i A : ℕ) (T : Dts) → has (brought i j (doneWith step sent)) A T ≡ (eqb i j && has (listed (sent .shares)) A T)
 
   pub shares-on : (step : Step) (t : Dts) (old rec : Record) (s : Store) (shares commands : Pairs) (own : List Accepted)
-      → j < room → RunningFits old s own → Told step t (rec .r .status) own → BringsOwn step → s .clock .0 ≤ t .0 → t .0 ≤ latestClock → Near t shares
+      → j < room → RunningFits old s own → ToldBy step t (rec .r .status) own → BringsOwn step → s .clock .0 ≤ t .0 → t .0 ≤ latestClock → Near t shares
       → RunningFits (combined rec (putAll (movedTo s t) j shares) f .rec) (putAll (movedTo s t) j shares)
       (doneWith step (record { shares = shares; commands = commands; ack = No }) ∷ own)
   shares-on step t old rec s shares commands own room-for fits told brings l m near =
@@ -168,7 +168,7 @@ module _ (f j : ℕ) where
       (and-eq-true-iff (eqb i j) (has (listed shares) A T) .0 (sym (brings (record { shares = shares; commands = commands; ack = No }) i A T) ∙ e) .1))
 
   pub delivers-on : (sender : ℕ) (t : Dts) (status : ℕ) (T : Dts) (rec : Record) (s : Store) (commands : Pairs) (own : List Accepted)
-      → sender < room → status ≤ 1 → fresh T t ≡ true → RunningFits rec s own → Told (Deliver sender j t status T) t (rec .r .status) own
+      → sender < room → status ≤ 1 → fresh T t ≡ true → RunningFits rec s own → ToldBy (Deliver sender j t status T) t (rec .r .status) own
       → s .clock .0 ≤ t .0 → t .0 ≤ latestClock
       → RunningFits (combined rec (put (movedTo s t) sender status T) f .rec) (put (movedTo s t) sender status T)
       (doneWith (Deliver sender j t status T) (record { shares = Zero; commands = commands; ack = No }) ∷ own)

@@ -167,15 +167,15 @@ module _ (i f : ℕ) (rec : Record) (s : Store) (t : Dts) where
 -- ---- at the site
 
 module _ (site : Site) (records : List Node) (j : ℕ) (sent : Sent) (rec new : Record) (runs : getD records j wentDown .phase ≡ Running rec) where
-  abbrev Told : Step → Type 0
-  Told step =
+  abbrev MovedSo : Step → Type 0
+  MovedSo step =
       (new .b ≡ rec .b)
       ⊎ (Of (named step .back) λ back. changeAt (site .breaker) back ≡ Yes (new .b))
       ⊎ (has (listed (sent .commands)) (new .b .status) (new .b .stamp) ≡ true)
 
   abbrev MovedBy : Step → Out → Type 0
   MovedBy step out =
-      named step .actor ≡ some j → out .answer ≡ Done sent → getD (tableAfterAnswer (out .answer) step records (out .node)) j wentDown .phase ≡ Running new → Told step
+      named step .actor ≡ some j → out .answer ≡ Done sent → getD (tableAfterAnswer (out .answer) step records (out .node)) j wentDown .phase ≡ Running new → MovedSo step
 
   abbrev Ended : (Node → Acted) → ℕ → Acted
   Ended event i = finished (event (getD records i wentDown)) i (site .f)
@@ -190,7 +190,7 @@ module _ (site : Site) (records : List Node) (j : ℕ) (sent : Sent) (rec new : 
   at-j : (step : Step) (event : Node → Acted)
       → ((s : Store) (e : Acted) → e ≡ event (record { phase = Running rec; store = s }) → (x : Record) → finished e j (site .f) .node .phase ≡ Running x
       → MovedTo (x .b) (rec .b) (Acked step (x .b)) (finished e j (site .f) .commands))
-      → AtPlace event j → Told step
+      → AtPlace event j → MovedSo step
   at-j step event moves h =
       let node = getD records j wentDown in
       let same : node ≡ record { phase = Running rec; store = node .store } = ap (λ (p : Phase). record { phase = p; store = node .store }) runs in
@@ -198,7 +198,7 @@ module _ (site : Site) (records : List Node) (j : ℕ) (sent : Sent) (rec new : 
       subst (λ (c : Pairs). MovedTo (new .b) (rec .b) (Acked step (new .b)) c) (h .1) (moves (node .store) (event node) (ap event same) new after)
 
   acts : (step : Step) (i : ℕ) (event : Node → Acted)
-      → ((s : Store) → Moves j (site .f) rec s (record { 0 = 0 }) (event (record { phase = Running rec; store = s })) (Acked step)) → some i ≡ some j → AtPlace event i → Told step
+      → ((s : Store) → Moves j (site .f) rec s (record { 0 = 0 }) (event (record { phase = Running rec; store = s })) (Acked step)) → some i ≡ some j → AtPlace event i → MovedSo step
   acts step i event moves is h = at-j step event (λ s e q x. subst (λ (y : Acted). (finished y j (site .f) .node .phase ≡ Running x → MovedTo (x .b) (rec .b) (Acked step (x .b)) (finished y j (site .f) .commands))) (sym q) (moves s x)) (subst (AtPlace event) (ap (λ (o : Option ℕ). Option·getD o j) is) h)
 
   sentIn : Answer → Sent
@@ -264,7 +264,7 @@ module _ (site : Site) (records : List Node) (j : ℕ) (sent : Sent) (rec new : 
   unfolding outOf
   moved step = by-tests (MovedBy step) site (length records) (recordOf (actor step) records) step (done step) (λ number is a r. refused number a)
     where
-      refused : (number : ℕ) → Refused number ≡ Done sent → Told step
+      refused : (number : ℕ) → Refused number ≡ Done sent → MovedSo step
       refused number e = absurd (false≢true (ap done-so e))
         where
           done-so : Answer → Bool

@@ -47,7 +47,7 @@ use Rattle.site.specs.declared.Out.{Out}
 use Rattle.stepping.specs.Steps.{stepped}
 use Rattle.lent.specs.declared.Told.{Told}
 use Rattle.lent.specs.InTurn.{outAt}
-use Rattle.lent.specs.TurnLaws.{Acted}
+use Rattle.lent.specs.TurnLaws.{SaidAt}
 use Rattle.lent.proofs.Walk.{var, fvar, sets, lands, lands-told, ends}
 use Rattle.lent.proofs.Rows.{out-parts, toldVal, told-is}
 use Rattle.lent.proofs.Shut.{symOf, headOf, opened, by-names, Of}
@@ -96,7 +96,7 @@ abbrev fn : (Head → Ty) → Fn
 fn h = by-names (opened (T′.mir ∷ outTy h ∷ []) h) code′.by-name
 
 -- with what was read, made of it and written back, the table is as it should be
-acted : (site : Site) (ys zs us : List Node) (i : ℕ) (x : Step) (n : Node) (r : Out) → (n ≡ getD ys i wentDown) × (zs ≡ ys) → r ≡ stepped site (length ys) n x → us ≡ set zs i (r .node) → Acted site ys i x (r .answer) (r .site) us
+acted : (site : Site) (ys zs us : List Node) (i : ℕ) (x : Step) (n : Node) (r : Out) → (n ≡ getD ys i wentDown) × (zs ≡ ys) → r ≡ stepped site (length ys) n x → us ≡ set zs i (r .node) → SaidAt site ys i x (r .answer) (r .site) us
 acted site ys zs us i x n r got e eu =
     let same : r ≡ outAt site ys i x = e ∙ ap (λ (m : Node). stepped site (length ys) m x) (got .0) in
     (ap (λ (u : Out). u .answer) same, (ap (λ (u : Out). u .site) same, eu ∙ ap (λ (l : List Node). set l i (r .node)) (got .1) ∙ ap (λ (u : Out). set ys i (u .node)) same))
@@ -126,7 +126,7 @@ module _ {M : Type 1} (𝓤 : URA M) (H : Heap 𝓤) (A : Atoms 𝓤) (W : Given
   abbrev Post : Val → SProp 𝓤
   Post = walkOf 𝓤 H A f.ended stayed (f.clauses 𝓤 H A mem run) .post (((κ, tt), (q, tt), tt, a, at), tt)
 
-  exits : (t : Told) (v : Val) (zs : List Node) → Is B.the-row t (v ∷ []) → length zs ≡ length ys → Acted site ys i x (t .answer) (t .site) zs → ent 𝓤 (⋆ 𝓤 H A (Had W T.the-row κ q b o γ zs)) (Post v)
+  exits : (t : Told) (v : Val) (zs : List Node) → Is B.the-row t (v ∷ []) → length zs ≡ length ys → SaidAt site ys i x (t .answer) (t .site) zs → ent 𝓤 (⋆ 𝓤 H A (Had W T.the-row κ q b o γ zs)) (Post v)
   exits t v zs t-is e said =
       qed W (Had W T.the-row κ q b o γ zs) ∵ suffices ! _ (ends-at 𝓤 H A f.ended stayed (f.clauses 𝓤 H A mem run) W (((κ, tt), (q, tt), tt, a, at), tt) v t (zs, (tt, (tt, (tt, tt)))) (e, (tt, (tt, (tt, tt))))) $ says ! said $
       by ! (closing W T.the-row κ q b o γ ys zs e room (S.the-row ∷ usize ∷ E.the-row ∷ []) (LL.makes S.the-type S′.the-plain 𝓤 H A, (uint-makes 𝓤 H A W w64, (LE.makes E.the-type E′.the-plain 𝓤 H A, tt))) (a .1) (at .1) (site-is, ((refl, i-fits), (x-is, tt)))

@@ -47,7 +47,7 @@ use Rattle.lent.specs.Lent.{firstRecords}
 use Rattle.steps.specs.Actor.{actor}
 use Rattle.lent.specs.InTurn.{indexOf, beginsOf, compromisedOf}
 use Rattle.lent.specs.Lent.{Said}
-use Rattle.lent.specs.TurnLaws.{Acted, asked, all-said}
+use Rattle.lent.specs.TurnLaws.{SaidAt, asked, all-said}
 use Rattle.lent.proofs.Walk.{var, fvar, sets, lands-told, ends}
 use Rattle.lent.proofs.Shut.{headOf, opened, by-names, Of}
 use Rattle.lent.proofs.Rows.{toldTy, toldVal, told-parts}
@@ -184,7 +184,7 @@ module _ {M : Type 1} (𝓤 : URA M) (H : Heap 𝓤) (A : Atoms 𝓤) (W : Given
         sets ! 0 (agg ! (and-then ! (var ! 0 refl) (and-then ! (fvar ! 0 refl refl refl) (no-more !)))) refl (tt, (tt, (record { fits = room .0 }, tt))) $
         -- [obs; the borrow; the token; the locals], here and after each call
         move ! (28 ∷ 29 ∷ 30 ∷ []) $
-        calls-slice ! fm (Act 𝓤 H A mem run) known-act T.the-row b o ys (length ys) refl room (to-act i) (goes-act i (i-is .1)) B.the-row (List Node × (Unit {0} × (Unit {0} × (Unit {0} × Unit {0})))) (λ ws. ws .0) (fsep ftrue (fsep ftrue (fsep ftrue ftrue))) (λ t. Acted site ys i x (t .answer) (t .site)) (λ α γ₁ w. id⊢ 𝓤 _)
+        calls-slice ! fm (Act 𝓤 H A mem run) known-act T.the-row b o ys (length ys) refl room (to-act i) (goes-act i (i-is .1)) B.the-row (List Node × (Unit {0} × (Unit {0} × (Unit {0} × Unit {0})))) (λ ws. ws .0) (fsep ftrue (fsep ftrue (fsep ftrue ftrue))) (λ t. SaidAt site ys i x (t .answer) (t .site)) (λ α γ₁ w. id⊢ 𝓤 _)
         (λ α γ₁. and-then ! (var ! 5 refl) (and-then ! (var ! 5 refl) (and-then ! (var ! 5 refl) (and-then ! (var ! 5 refl) (no-more !))))) (λ wt t zs acted l t-is.
         let p = told-parts t wt t-is in
         lands-told ! 3 refl (of-told t wt t-is) (p .made) $
