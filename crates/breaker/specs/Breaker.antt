@@ -5,6 +5,7 @@ use mathlib.Core.List.{List, [], _∷_}
 use lib.Dec.{eqb, leb, ltb}
 use lib.ListN.{getD}
 use Rattle.time.specs.declared.Dts.{Dts}
+use Rattle.time.specs.Larger.{larger}
 use Rattle.time.specs.Limits.{stampSound}
 use Rattle.tables.specs.Tables.{table}
 use Rattle.pairs.specs.declared.Pair.{Pair}
@@ -28,10 +29,6 @@ pairAt changes i = getD (changes .pairs) i noChange
 unfoldable pub started : ℕ → Dts → Breaker
 started status g =
     record { pair = pair status g; clock = g; changes = record { pairs = table mostChanges (λ i. noChange); count = 0 } }
-
--- "(A, larger of T and t)"
-abbrev pub larger : Dts → Dts → Dts
-larger T t = cond (leb (T .0) (t .0)) t T
 
 -- the new change in front of the others
 unfoldable pub remembered : Changes → Pair → Changes

@@ -4,7 +4,7 @@ use pairs::Pair;
 use time::Dts;
 use time::LAST_HELD;
 ghost use mathlib.Core.Path.{_≡_};
-ghost use Rattle.breaker.specs.Breaker.{larger, remembered, started, changed, changeAt, pairSound, changesSound, breakerSound};
+ghost use Rattle.breaker.specs.Breaker.{remembered, started, changed, changeAt, pairSound, changesSound, breakerSound};
 
 // Changes, the newest first.
 pub struct Changes {
@@ -38,12 +38,6 @@ pub fn start(status: u8, g: Dts) -> Breaker
     }
 }
 
-fn larger(a: Dts, b: Dts) -> Dts
-    ensures { λ out. ⌜ out ≡ larger a b ⌝ }
-{
-    if a.0 <= b.0 { b } else { a }
-}
-
 // One change more: the ninth is forgotten.
 fn remember(changes: Changes, pair: Pair) -> Changes
     ensures { λ out. ⌜ out ≡ remembered changes pair ⌝ }
@@ -62,7 +56,7 @@ pub fn change(breaker: Breaker, t: Dts, status: u8, stamp: Dts) -> Breaker
 {
     let pair = Pair {
         status,
-        stamp: larger(stamp, t),
+        stamp: time::larger(stamp, t),
     };
     let old = breaker.changes;
     let changes = remember(old, pair);

@@ -1,21 +1,20 @@
 -- Accepted stamps rise: no earlier change is above the breaker's stamp.
 use Prim.Native.Nat.{ℕ, _≤_}
 use mathlib.Core.Path.{_≡_, refl, sym, ap, _∙_}
-use mathlib.Core.Bool.{Bool, true, false, cond, false≢true}
+use mathlib.Core.Bool.{true, false, false≢true}
 use mathlib.Core.List.{List, [], _∷_}
 use mathlib.Core.Option.{Option, none, some}
 use native.Mathlib.Omega.{arith}
-use lib.Dec.{leb}
 use lib.ListN.{length}
-use borrow.Author.Tests.{leb-true}
 use Rattle.refusals.specs.Tests.{refusal, done-passed}
 use Rattle.time.specs.declared.Dts.{Dts}
+use Rattle.time.specs.Larger.{larger, larger-least}
 use Rattle.pairs.specs.declared.Known.{Known}
 use Rattle.pairs.specs.declared.Known.the-variants.{Yes, No}
 use Rattle.node.specs.declared.Node.{Node}
 use Rattle.steps.specs.declared.Step.{Step}
 use Rattle.steps.specs.declared.Step.the-variants.{Start, Tick, Report, Deliver, ShareTimeout, ResendTimeout, Command, Ack, Query, Down, Up}
-use Rattle.breaker.specs.Breaker.{larger, changed}
+use Rattle.breaker.specs.Breaker.{changed}
 use Rattle.site.specs.declared.Site.{Site}
 use Rattle.site.specs.declared.Out.{Out}
 use Rattle.refusing.specs.Tests.{commandTests, testsOf}
@@ -48,13 +47,6 @@ other k e q = absurd (false≢true (sym e ∙ ap (λ (x : StepKind). isKind x co
 stampOf : Known → ℕ
 stampOf (Yes p) = p .stamp .0
 stampOf No = 0
-
-larger-least : (T t : Dts) → T .0 ≤ larger T t .0
-larger-least T t = go (leb (T .0) (t .0)) refl
-  where
-    go : (x : Bool) → leb (T .0) (t .0) ≡ x → T .0 ≤ cond x t T .0
-    go true e = leb-true _ _ e
-    go false e = omega arith
 
 module _ (h : List Entry) (site : Site) (records : List Node) (before : Each (NotAbove (site .breaker .pair .stamp)) (accepted h)) where
   abbrev RisenBy : Step → Out → Type 0

@@ -2,6 +2,7 @@
 ghost use mathlib.Core.Path.{_≡_};
 ghost use Rattle.time.specs.Discretising.{refusedReading, discretised, defaultInterval};
 ghost use Rattle.time.specs.Fresh.{fresh, next};
+ghost use Rattle.time.specs.Larger.{larger};
 ghost use Rattle.time.specs.Newer.{newer};
 
 // A clock reading, or an interval, in microseconds.
@@ -80,6 +81,13 @@ pub fn next(stamp: Dts) -> Dts
     ensures { λ out. ⌜ out ≡ next stamp ⌝ }
 {
     Dts(std::num::wrapping_add_u32(stamp.0, 1))
+}
+
+// The larger of two stamps.
+pub fn larger(a: Dts, b: Dts) -> Dts
+    ensures { λ out. ⌜ out ≡ larger a b ⌝ }
+{
+    if a.0 <= b.0 { b } else { a }
 }
 
 // Whether a relay's state number is new after the last one.

@@ -4,7 +4,7 @@ use Rattle.breaker.proofs.change.Statement.{statement}
 use Rattle.breaker.proofs.change.Tie as tie
 use Rattle.breaker.proofs.change.Reads as reads
 use Rattle.breaker.proofs.change.Lts as lts
-use Rattle.breaker.proofs.larger.Reads as larger-reads
+use Rattle.time.proofs.larger.Reads as larger-reads
 use Rattle.breaker.proofs.remember.Reads as remember-reads
 
 larger-requires : tie.Need-larger-requires

@@ -1,8 +1,8 @@
 use borrow.Author.Tests.{le-leb, lt-leb}
-use Rattle.breaker.proofs.larger.Statement.{statement}
-use Rattle.breaker.proofs.larger.Tie as tie
-use Rattle.breaker.proofs.larger.Reads as reads
-use Rattle.breaker.proofs.larger.Lts as lts
+use Rattle.time.proofs.larger.Statement.{statement}
+use Rattle.time.proofs.larger.Tie as tie
+use Rattle.time.proofs.larger.Reads as reads
+use Rattle.time.proofs.larger.Lts as lts
 
 returns : tie.Need-returns
 returns c = simp (le-leb _ _ (c .if1 .taken))
