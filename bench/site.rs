@@ -223,15 +223,17 @@ impl Site {
         }
         let node = &mut self.nodes[usize::from(at)];
         (node.number, node.knows_r) = (number, true);
+        // A relay that reports before b's stamp is taken to speak after it.
+        let stamp = if node.knows_b { t.max(node.b) } else { t };
         if node.phase == STARTING {
-            (node.r_status, node.r) = (status, t);
+            (node.r_status, node.r) = (status, stamp);
             node.settle(t);
             return 0;
         }
         let before = node.attempts();
         let done = node.r_status == node.b_status;
         node.advance(t);
-        (node.r_status, node.r) = (status, t);
+        (node.r_status, node.r) = (status, stamp);
         if done && status != node.b_status {
             node.armed = false;
         }

@@ -142,6 +142,11 @@ pub fn is_new(number: u32, last: Option<u32>) -> bool {
     }
 }
 
+/// A report at a node that knows b stamps r with the larger of t and b's stamp (request 1), at any other with t.
+fn report_pair(status: u8, t: u64, b: Option<Pair>) -> Pair {
+    Pair { status: Status::of(status).unwrap(), stamp: b.map_or(t, |b| t.max(b.stamp)) }
+}
+
 impl Running {
     pub fn state(&self) -> State {
         if self.r.status == self.b.status {
@@ -254,7 +259,7 @@ impl Site {
         node.clock = Some(t);
         match *step {
             Step::Report { status, number, .. } => {
-                node.r = Some(Pair { status: Status::of(status).unwrap(), stamp: t });
+                node.r = Some(report_pair(status, t, node.b));
                 node.number = Some(number);
             }
             Step::Ack { back, .. } => {
@@ -281,13 +286,12 @@ impl Site {
         node.clock = t;
         match *step {
             Step::Report { status, number, .. } => {
-                let action = Status::of(status).unwrap();
-                node.r = Pair { status: action, stamp: t };
+                node.r = report_pair(status, t, Some(node.b));
                 node.number = number;
                 let attempts = |state| matches!(state, State::Attempt(_));
                 if attempts(node.state()) && !attempts(before) {
-                    sent.push(Sent::Share(me, Pair { status: action, stamp: t }));
-                    sent.push(Sent::Share(me, Pair { status: action, stamp: t + 1 }));
+                    sent.push(Sent::Share(me, Pair { status: node.r.status, stamp: t }));
+                    sent.push(Sent::Share(me, Pair { status: node.r.status, stamp: t + 1 }));
                 }
             }
             Step::Deliver { sender, status, stamp, .. } => {

@@ -4,6 +4,7 @@ use mathlib.Core.Bool.{not, _&&_, cond}
 use lib.Dec.{leb}
 use Rattle.time.specs.declared.Dts.{Dts}
 use Rattle.time.specs.Fresh.{next}
+use Rattle.time.specs.Larger.{larger}
 use Rattle.store.specs.declared.Store.{Store}
 use Rattle.store.specs.Store.{empty, put, movedTo}
 use Rattle.pairs.specs.declared.Pair.{Pair}
@@ -21,6 +22,7 @@ use Rattle.pairs.specs.declared.Pairs.{Pairs}
 use Rattle.pairs.specs.declared.Pairs.the-variants.{Zero, One, Two}
 use Rattle.node.specs.declared.Acted.{Acted}
 use Rattle.node.specs.State.{attempts}
+use Rattle.node.specs.Asked.{knownB}
 use Rattle.pairs.specs.Pair.{pair, same}
 
 -- a node that sends nothing
@@ -43,7 +45,13 @@ onceKnown l = bothKnown (l .r) (l .b) l
 unfoldable pub begun : Learned → Dts → Acted
 begun l t = quiet (record { phase = onceKnown l; store = empty t })
 
--- ---- Report: "It sets r to the status and t. If a running node was not in Attempt and now is, it shares (status, t) and (status, t+1)."
+-- ---- Report: "a report at a node that knows b stamps r with the larger of t and b's stamp, so no report ends in Wait. Shares still carry t and t+1."
+-- (§1 of 02.) "If a running node was not in Attempt and now is, it shares (status, t) and (status, t+1)."
+
+-- the stamp that a report at clock t gives r, for what the node knows of the breaker: where that is nothing, "it sets r to the status and t"
+abbrev pub reportStamp : Known → Dts → Dts
+reportStamp (Yes b) t = larger t (b .stamp)
+reportStamp No t = t
 
 -- "Leaving Done disarms resend."
 unfoldable pub kept : Record → Pair → Pair → Resend
@@ -66,7 +74,7 @@ reportPhase (Starting l) node r t number = begun (record { r = Yes r; b = l .b; 
 reportPhase (Running rec) node r t number = reportRunning rec (node .store) r t number
 
 unfoldable pub reported : Node → Dts → ℕ → ℕ → Acted
-reported node t status number = reportPhase (node .phase) node (pair status t) t number
+reported node t status number = reportPhase (node .phase) node (pair status (reportStamp (knownB node) t)) t number
 
 -- ---- Deliver: "Stores the share, in every running state."
 

@@ -8,13 +8,14 @@ use node::Record;
 use node::Resend;
 use node::asked::is_attempt;
 use node::asked::is_done;
+use node::asked::known_b;
 use pairs::Known;
 use pairs::Pair;
 use pairs::Pairs;
 use store::Store;
 use time::Dts;
 ghost use mathlib.Core.Path.{_≡_};
-ghost use Rattle.events.specs.Events.{quiet, onceKnown, begun, kept, reportShares, reportRunning, reported, delivered, shareTimedOut, again, resendTimedOut, later, laterThan, ackRunning, acked, queried, wentDown, wentUp};
+ghost use Rattle.events.specs.Events.{quiet, onceKnown, begun, kept, reportStamp, reportShares, reportRunning, reported, delivered, shareTimedOut, again, resendTimedOut, later, laterThan, ackRunning, acked, queried, wentDown, wentUp};
 
 // An event that leaves a node as it is given, and sends nothing.
 pub fn sends_nothing(node: Node) -> Acted
@@ -76,6 +77,16 @@ fn keep_resend(rec: Record, r: Pair, b: Pair) -> Resend
     if was & !is { Resend::Off } else { rec.resend }
 }
 
+// The stamp that a report gives r, for what the node knows of the breaker.
+fn report_stamp(b: Known, t: Dts) -> Dts
+    ensures { λ out. ⌜ out ≡ reportStamp b t ⌝ }
+{
+    match b {
+        Known::Yes(pair) => time::larger(t, pair.stamp),
+        Known::No => t,
+    }
+}
+
 // The shares of a report: two where the node enters Attempt.
 fn report_shares(old: Pair, r: Pair, b: Pair, t: Dts) -> Pairs
     ensures { λ out. ⌜ out ≡ reportShares old r b t ⌝ }
@@ -122,7 +133,11 @@ pub fn report(node: Node, t: Dts, status: u8, number: u32) -> Acted
 {
     let phase = node.phase;
     let store = node.store;
-    let r = Pair { status, stamp: t };
+    let known = known_b(node);
+    let r = Pair {
+        status,
+        stamp: report_stamp(known, t),
+    };
     match phase {
         Phase::Down => sends_nothing(node),
         Phase::Starting(learned) => {

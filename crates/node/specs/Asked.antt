@@ -41,6 +41,15 @@ isStarting node = phaseStarting (node .phase)
 abbrev pub isRunning : Node → Bool
 isRunning node = phaseRunning (node .phase)
 
+-- what a node knows of the breaker, if anything: b
+abbrev phaseB : Phase → Known
+phaseB Down = No
+phaseB (Starting l) = l .b
+phaseB (Running rec) = Yes (rec .b)
+
+abbrev pub knownB : Node → Known
+knownB node = phaseB (node .phase)
+
 -- "a number is new when none is known since start-up, or when number minus last, wrapping at 32 bits, is 1 to 2,147,483,647"
 abbrev pub newAfter : ℕ → Last → Bool
 newAfter number (Number last) = newer number last

@@ -11,7 +11,7 @@ use time::LAST_HELD;
 ghost use mathlib.Core.Path.{_≡_};
 ghost use Rattle.node.specs.State.{attempts};
 ghost use Rattle.pairs.specs.Pair.{same};
-ghost use Rattle.node.specs.Asked.{isDown, isStarting, isRunning, isNew, newAfter, inAttempt, armed, knownSound, resendSound, recordSound, learnedSound, nodeSound};
+ghost use Rattle.node.specs.Asked.{isDown, isStarting, isRunning, knownB, isNew, newAfter, inAttempt, armed, knownSound, resendSound, recordSound, learnedSound, nodeSound};
 
 // Done: the relay's status is the breaker's.
 pub fn is_done(r: Pair, b: Pair) -> bool
@@ -57,6 +57,24 @@ pub fn is_running(node: Node) -> bool
         Phase::Down => false,
         Phase::Starting(_) => false,
         Phase::Running(_) => true,
+    }
+}
+
+// What a node knows of the breaker's status and stamp, if anything.
+pub fn known_b(node: Node) -> Known
+    ensures { λ out. ⌜ out ≡ knownB node ⌝ }
+{
+    let phase = node.phase;
+    match phase {
+        Phase::Down => Known::No,
+        Phase::Starting(learned) => {
+            let b = learned.b;
+            b
+        }
+        Phase::Running(rec) => {
+            let b = rec.b;
+            Known::Yes(b)
+        }
     }
 }
 

@@ -19,6 +19,7 @@ use Rattle.pairs.specs.declared.Known.the-variants.{Yes, No}
 use Rattle.pairs.specs.declared.Pairs.{Pairs}
 use Rattle.pairs.specs.declared.Pairs.the-variants.{Zero}
 use Rattle.pairs.specs.Pair.{pair, listed, has}
+use Rattle.pairs.specs.KnownLaws.{isKnown}
 use Rattle.node.specs.declared.Last.{Last}
 use Rattle.node.specs.declared.Learned.{Learned}
 use Rattle.node.specs.declared.Record.{Record}
@@ -42,10 +43,6 @@ latestClock = 1_000_000_001
 
 abbrev pub doneWith : Step → Sent → Accepted
 doneWith step sent = record { step = step; sent = sent }
-
-abbrev pub isKnown : Known → Bool
-isKnown (Yes p) = true
-isKnown No = false
 
 -- for node j of a site whose threshold is f + 1
 module _ (f j : ℕ) where

@@ -1,6 +1,6 @@
 -- Each step at a node keeps its record fitting: one law for each of the eight.
 use Prim.Native.Nat.{ℕ, _+_, _-_, _≤_, _<_}
-use mathlib.Core.Path.{_≡_, refl, sym, ap, ap₂, _∙_}
+use mathlib.Core.Path.{_≡_, refl, sym, ap, ap₂, subst, _∙_}
 use mathlib.Core.Bool.{Bool, true, false, not, _&&_, cond, false≢true}
 use mathlib.Core.List.{List, [], _∷_}
 use mathlib.Core.Option.{some}
@@ -12,24 +12,25 @@ use Rattle.time.specs.Fresh.{fresh, window, next, next-is}
 use Rattle.senders.specs.Masks.{room}
 use Rattle.store.specs.declared.Store.{Store}
 use Rattle.pairs.specs.declared.Pair.{Pair}
-use Rattle.pairs.specs.declared.Known.{Known}
-use Rattle.pairs.specs.declared.Known.the-variants.{Yes, No}
+use Rattle.pairs.specs.declared.Known.the-variants.{Yes}
+use Rattle.pairs.specs.declared.Pairs.{Pairs}
 use Rattle.pairs.specs.declared.Pairs.the-variants.{Zero, Two}
 use Rattle.pairs.specs.Pair.{pair, listed}
+use Rattle.pairs.specs.KnownLaws.{none-known, same-known}
 use Rattle.node.specs.declared.Last.the-variants.{Number}
 use Rattle.node.specs.declared.Learned.{Learned}
 use Rattle.node.specs.declared.Phase.{Phase}
 use Rattle.node.specs.declared.Phase.the-variants.{Starting, Running, Down as NotUp}
 use Rattle.node.specs.declared.Node.{Node}
-use Rattle.node.specs.State.{attempts}
 use Rattle.node.specs.Asked.{isDown, isStarting, isRunning}
 use Rattle.combining.specs.Combining.{putAll, finished}
-use Rattle.events.specs.Events.{reportShares, reportRunning, reported, delivered, shareTimedOut, resendTimedOut, laterThan, ackRunning, acked, queried, wentDown, wentUp}
+use Rattle.events.specs.ReportLaws.{entersBy, report-shares}
+use Rattle.events.specs.Events.{reportRunning, reported, delivered, shareTimedOut, resendTimedOut, laterThan, ackRunning, acked, queried, wentDown, wentUp}
 use Rattle.steps.specs.declared.Step.the-variants.{Report, Deliver, ShareTimeout, ResendTimeout, Ack, Query, Down, Up}
 use Rattle.site.specs.declared.Sent.{Sent}
 use Rattle.sequences.specs.History.{Accepted, runs}
 use Rattle.sequences.specs.Holding.{Near, has-cond}
-use Rattle.sequences.specs.Fitting.{latestClock, doneWith, isKnown, StartingFits, Fits, FitsAfter, shares-on, delivers-on, begins}
+use Rattle.sequences.specs.Fitting.{latestClock, doneWith, StartingFits, Fits, FitsAfter, shares-on, delivers-on, begins}
 
 fresh-self : (t : Dts) → fresh t t ≡ true
 fresh-self t = simp (le-leb (t .0 - window) (t .0) (omega arith), le-leb (t .0) (t .0 + window) (omega arith))
@@ -41,17 +42,9 @@ fresh-next : (t : Dts) → t .0 ≤ latestClock → fresh (next t) t ≡ true
 fresh-next t m =
     rw (next-after t m) (simp (le-leb (t .0 - window) (t .0 + 1) (omega arith), le-leb (t .0 + 1) (t .0 + window) (omega arith)))
 
-near-report : (old r b : Pair) (t : Dts) → r .status ≤ 1 → t .0 ≤ latestClock → Near t (reportShares old r b t)
-unfolding reportShares
-near-report old r b t a m = go (not (attempts old b) && attempts r b)
-  where
-    go : (x : Bool) → Near t (cond x (Two (pair (r .status) t) (pair (r .status) (next t))) Zero)
-    go true = ((a, fresh-self t), (a, fresh-next t m))
-    go false = tt
-
-abbrev statusOf : Known → ℕ
-statusOf (Yes p) = p .status
-statusOf No = 0
+near-report : (t : Dts) (status : ℕ) (x : Bool) → status ≤ 1 → t .0 ≤ latestClock → Near t (cond x (Two (pair status t) (pair status (next t))) Zero)
+near-report t status true a m = ((a, fresh-self t), (a, fresh-next t m))
+near-report t status false a m = tt
 
 -- for node j of a site whose threshold is f + 1, its record, what the history says of it, and a clock that it takes
 module _ (f j : ℕ) (s : Store) (own : List Accepted) (t : Dts) (room-for : j < room) (l : s .clock .0 ≤ t .0) (m : t .0 ≤ latestClock) where
@@ -66,13 +59,14 @@ module _ (f j : ℕ) (s : Store) (own : List Accepted) (t : Dts) (room-for : j <
   unfolding reported reportRunning finished
   keeps-report status number NotUp a up fits = absurd (false≢true up)
   keeps-report status number (Starting learned) a up fits =
-      begins f j (Report j t status number) (Yes (pair status t)) (learned .b) (Number number) t own (not-yet fits) m (λ sent. refl) (λ sent. refl)
+      begins f j (Report j t status number) (Yes (pair status _)) (learned .b) (Number number) t own (not-yet fits) m (λ sent. refl) (λ sent. refl)
       (λ sent. fits .b-known)
-      (λ sent p e. let q : status ≡ p .status = ap statusOf e in (ap some q, rw (← q) a))
+      (λ sent p e. let q : status ≡ p .status = ap (λ (x : Pair). x .status) (same-known _ p e) in (ap some q, rw (← q) a))
   keeps-report status number (Running rec) a up fits =
       shares-on f j (Report j t status number) t rec _ s _ _ own room-for fits
       (record { told-life = λ sent. refl; told-clock = λ sent. refl; told-report = λ sent. (refl, a) })
-      (λ sent i A T. has-cond (eqb i j) (listed (sent .shares)) A T) l m (near-report (rec .r) _ (rec .b) t a m)
+      (λ sent i A T. has-cond (eqb i j) (listed (sent .shares)) A T) l m
+      (subst (λ (shares : Pairs). Near t shares) (sym (report-shares s t status number (Running rec))) (near-report t status (entersBy status (at (Running rec))) a m))
 
   pub keeps-deliver : (sender status : ℕ) (T : Dts) (p : Phase) → sender < room → status ≤ 1 → fresh T t ≡ true → isRunning (at p) ≡ true → Fits f j p s own
       → FitsAfter f j (Deliver sender j t status T) (delivered (at p) t sender status T) own
@@ -125,13 +119,10 @@ pub keeps-down : (f j : ℕ) (own : List Accepted) (sent : Sent) → Fits f j (w
 unfolding wentDown
 keeps-down f j own sent = refl
 
-never : {r : Pair} → No ≡ Yes r → ⊥
-never e = false≢true (ap isKnown e)
-
 pub keeps-up : (f j : ℕ) (own : List Accepted) (sent : Sent) → Fits f j (wentUp .phase) (wentUp .store) (doneWith (Up j) sent ∷ own)
 unfolding wentUp
-keeps-up f j own sent = record { r-known = refl; b-known = refl; not-both = refl; relay = λ r e. absurd (never e) }
+keeps-up f j own sent = record { r-known = refl; b-known = refl; not-both = refl; relay = λ r e. absurd (none-known e) }
 
 pub fits-first : (f j : ℕ) → Fits f j (wentUp .phase) (wentUp .store) []
 unfolding wentUp
-fits-first f j = record { r-known = refl; b-known = refl; not-both = refl; relay = λ r e. absurd (never e) }
+fits-first f j = record { r-known = refl; b-known = refl; not-both = refl; relay = λ r e. absurd (none-known e) }

@@ -11,5 +11,6 @@ pub mod Keeps
 pub mod Reaching
 pub mod Rising
 pub mod Sending
+pub mod Reporting
 pub mod Started
 pub mod Proved

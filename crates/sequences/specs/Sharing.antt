@@ -1,7 +1,7 @@
 -- Which shares a step makes: whoever shares (A, T) does so at its own clock T or T − 1, its relay's last accepted report being A.
 use Prim.Native.Nat.{ℕ, _+_, _≤_}
 use mathlib.Core.Path.{_≡_, refl, sym, ap, _∙_}
-use mathlib.Core.Bool.{Bool, true, false, not, _&&_, _||_, cond, false≢true, and-eq-true-iff}
+use mathlib.Core.Bool.{Bool, true, false, _&&_, _||_, cond, false≢true, and-eq-true-iff}
 use mathlib.Core.Logic.{_⊎_, inl, inr}
 use mathlib.Core.List.{List}
 use mathlib.Core.Option.{some}
@@ -17,9 +17,9 @@ use Rattle.node.specs.declared.Phase.{Phase}
 use Rattle.node.specs.declared.Phase.the-variants.{Starting, Running, Down as NotUp}
 use Rattle.node.specs.declared.Node.{Node}
 use Rattle.node.specs.declared.Acted.{Acted}
-use Rattle.node.specs.State.{attempts}
 use Rattle.combining.specs.Combining.{finished, finishedPhase}
-use Rattle.events.specs.Events.{begun, reportShares, reportRunning, reported, delivered, shareTimedOut, resendTimedOut, ackRunning, acked, queried}
+use Rattle.events.specs.ReportLaws.{entersBy, report-shares as shares-when}
+use Rattle.events.specs.Events.{begun, reported, delivered, shareTimedOut, resendTimedOut, ackRunning, acked, queried}
 use Rattle.sequences.specs.History.{Accepted, lastReport}
 use Rattle.sequences.specs.Fitting.{latestClock, Fits}
 use Rattle.sequences.specs.Keeping.{next-after}
@@ -50,10 +50,7 @@ module _ (s : Store) (t : Dts) where
   -- a report shares the status that it reports,
   pub report-shares : (p : Phase) (status number A : ℕ) (T : Dts) → t .0 ≤ latestClock → has (listed (reported (at p) t status number .shares)) A T ≡ true
       → (A ≡ status) × AtOwnClock t T
-  unfolding reported reportRunning reportShares begun
-  report-shares NotUp status number A T m e = absurd (false≢true e)
-  report-shares (Starting learned) status number A T m e = absurd (false≢true e)
-  report-shares (Running rec) status number A T m e = go (not (attempts (rec .r) (rec .b)) && attempts (pair status t) (rec .b)) e
+  report-shares p status number A T m e = go (entersBy status (at p)) (rw (shares-when s t status number p) at e)
     where
       two : (x y : Bool) → (eqb A status && eqb (T .0) (t .0)) ≡ x → (eqb A status && eqb (T .0) (next t .0)) ≡ y → (x || (y || false)) ≡ true
           → (A ≡ status) × AtOwnClock t T
