@@ -48,7 +48,7 @@ begun l t = quiet (record { phase = onceKnown l; store = empty t })
 -- ---- Report: "a report at a node that knows b stamps r with the larger of t and b's stamp, so no report ends in Wait. Shares still carry t and t+1."
 -- (§1 of 02.) "If a running node was not in Attempt and now is, it shares (status, t) and (status, t+1)."
 
--- the stamp that a report at clock t gives r, for what the node knows of the breaker: where that is nothing, "it sets r to the status and t"
+-- the stamp that a report at clock t gives r, for what the node knows of the breaker; where that is nothing, 01's: "It sets r to the status and t."
 abbrev pub reportStamp : Known → Dts → Dts
 reportStamp (Yes b) t = larger t (b .stamp)
 reportStamp No t = t
