@@ -12,5 +12,6 @@ pub mod Reaching
 pub mod Rising
 pub mod Sending
 pub mod Reporting
+pub mod Relay
 pub mod Started
 pub mod Proved
