@@ -1,5 +1,5 @@
--- Laws of tests joined by "and".
-use mathlib.Core.Path.{_≡_, refl}
+-- Laws of tests joined by "and", and of tests that hold together.
+use mathlib.Core.Path.{_≡_, refl, sym}
 use mathlib.Core.Bool.{Bool, true, false, _&&_}
 
 pub and-assoc : (a b c : Bool) → (a && b && c) ≡ (a && (b && c))
@@ -13,3 +13,8 @@ and-true false = refl
 pub and-false : (a : Bool) → (a && false) ≡ false
 and-false true = refl
 and-false false = refl
+
+pub both-ways : (a b : Bool) → (a ≡ true → b ≡ true) → (b ≡ true → a ≡ true) → a ≡ b
+both-ways true b f g = sym (f refl)
+both-ways false true f g = g refl
+both-ways false false f g = refl

@@ -2,7 +2,7 @@
 use Prim.Native.Nat.{ℕ, zero, suc, _+_, _/_, _%_, _^_, max, _≤_, _<_}
 use mathlib.Core.Path.{_≡_, refl, sym, ap, ap₂, _∙_}
 use mathlib.Core.Bool.{Bool, true, false, not, _&&_, _||_, cond}
-use native.Mathlib.Nat.{not-suc-le-zero, le-of-suc-le-suc, zero-add, zero-div, div-one, mod-lt, div-eq-of-lt, lt-of-lt-of-le, zero-max}
+use native.Mathlib.Nat.{not-suc-le-zero, le-of-suc-le-suc, zero-add, zero-div, div-one, mod-lt, div-eq-of-lt, lt-of-lt-of-le, lt-of-le-of-lt, zero-max}
 use native.Mathlib.Numerals.{one-add, add-one}
 use native.Mathlib.Omega.{arith}
 use lib.Arith.{lt-one}
@@ -152,6 +152,14 @@ same-below (suc k) a b ha hb h =
 
 pub same-members : (a b : ℕ) → a < 2 ^ room → b < 2 ^ room → ((i : ℕ) → i < room → isIn a i ≡ isIn b i) → a ≡ b
 same-members a b = same-below room a b
+
+-- the same of any two masks, where members of every number are looked at
+pub same-bits : (a b : ℕ) → ((i : ℕ) → isIn a i ≡ isIn b i) → a ≡ b
+same-bits a b h = same-below (a + b) a b (lt-of-lt-of-le (lt-own a) (pow-mono (omega arith))) (lt-of-lt-of-le (lt-own b) (pow-mono (omega arith))) (λ i l. h i)
+  where
+    lt-own : (k : ℕ) → k < 2 ^ k
+    lt-own zero = lit< tt
+    lt-own (suc k) = lt-of-le-of-lt (lt-own k) (pow-lt (omega arith))
 
 -- ---- how many
 

@@ -1,14 +1,15 @@
 -- Sets of senders below n.
-use Prim.Native.Nat.{ℕ, _/_, _%_, _^_, _≤_, _<_}
+use Prim.Native.Nat.{ℕ, _+_, _/_, _%_, _^_, _≤_, _<_}
 use mathlib.Core.Path.{_≡_, refl, sym, ap, _∙_}
 use mathlib.Core.Bool.{Bool, true, false, _&&_, cond, false≢true}
 use native.Mathlib.Nat.{div-eq-of-lt, lt-of-lt-of-le, le-trans, one-mul, le-div-iff-mul-le}
 use native.Mathlib.Omega.{arith}
 use lib.Bits.{bitOr, bitXor, or-lt, xor-lt, or-add-and, and-le-l, and-le-r}
 use lib.Dec.{eqb, ltb}
-use lib.Pow.{pow-pos, pow-lt, pow-mono}
+use lib.Pow.{pow-pos, pow-lt, pow-mono, shr-shr}
 use borrow.Author.Tests.{eq-eqb, ne-eqb, lt-ltb, le-ltb, ltb-true, ltb-false}
 use Rattle.senders.specs.Masks.{room, isIn, joined, without, together, within}
+use Rattle.senders.specs.MaskLaws.{in-none, same-bits}
 
 -- Whoever is in a set within n is below n.
 pub within-below : (mask n i : ℕ) → within mask n ≡ true → isIn mask i ≡ true → i < n
@@ -66,3 +67,15 @@ shifted-out mask n = go (ltb mask (2 ^ n)) refl
 pub room-within : (mask n : ℕ) → mask < 2 ^ room → room ≤ n → within mask n ≡ true
 unfolding within
 room-within mask n h l = lt-ltb _ _ (lt-of-lt-of-le h (pow-mono l))
+
+-- A set whose every member is below n is within n.
+pub below-within : (mask n : ℕ) → ((i : ℕ) → isIn mask i ≡ true → i < n) → within mask n ≡ true
+unfolding isIn
+below-within mask n h = sym (shifted-out mask n) ∙ eq-eqb _ _ (same-bits (mask / 2 ^ n) 0 (λ i. above i ∙ sym (in-none i)))
+  where
+    outside : (i : ℕ) (b : Bool) → isIn mask (n + i) ≡ b → b ≡ false
+    outside i true e = let l = h (n + i) e in absurd (omega arith)
+    outside i false e = refl
+
+    above : (i : ℕ) → isIn (mask / 2 ^ n) i ≡ false
+    above i = ap (λ (x : ℕ). eqb (x % 2) 1) (shr-shr mask n i) ∙ outside i (isIn mask (n + i)) refl
