@@ -16,7 +16,7 @@ use Rattle.senders.specs.Masks.{isIn, size}
 use Rattle.tables.specs.Tables.{table, length-table, getD-table}
 use Rattle.store.specs.declared.Store.{Store}
 use Rattle.store.specs.declared.Earliest.the-variants.{Stamp, Nothing}
-use Rattle.store.specs.Store.{stamps, hasPlace, place, setAt, sendersOf}
+use Rattle.store.specs.Store.{stamps, hasPlace, sendersOf}
 use Rattle.store.specs.Places.{bounds}
 use Rattle.store.specs.Earliest.{dts, freshStamp, qualifies, firstOf, earliest}
 
@@ -87,11 +87,11 @@ size-none = refl
 -- whoever is held from anybody is fresh
 held-has-place : (s : Store) (a f : ℕ) (T : Dts) → f < size (sendersOf s a T) → hasPlace (s .clock) a T ≡ true
 unfolding sendersOf
-held-has-place s a f T h = go (hasPlace (s .clock) a T) h
+held-has-place s a f T h = go (hasPlace (s .clock) a T) _ h
   where
-    go : (b : Bool) → f < size (cond b (setAt s (place (s .clock) a T)) 0) → b ≡ true
-    go true h = refl
-    go false h = absurd (none (rw size-none at h))
+    go : (b : Bool) (m : ℕ) → f < size (cond b m 0) → b ≡ true
+    go true m h = refl
+    go false m h = absurd (none (rw size-none at h))
       where
         none : f < 0 → ⊥
         none l = omega arith

@@ -1,7 +1,7 @@
 -- What a store holds, and how that changes. A caller reasons by `held` and the laws here alone.
-use Prim.Native.Nat.{ℕ, _+_, _-_, _%_, max, _≤_, _<_}
+use Prim.Native.Nat.{ℕ, _+_, _-_, max, _≤_, _<_}
 use mathlib.Core.Path.{_≡_, refl, sym, ap, ap₂, _∙_}
-use mathlib.Core.Bool.{Bool, true, false, _&&_, _||_, cond, and-eq-true-iff}
+use mathlib.Core.Bool.{Bool, true, false, _&&_, _||_, not, cond, and-eq-true-iff}
 use native.Mathlib.Omega.{arith}
 use lib.Dec.{eqb, leb, ltb}
 use borrow.Author.Tests.{eqb-true, lt-ltb, le-ltb, leb-true, leb-false, le-leb}
@@ -11,7 +11,7 @@ use Rattle.senders.specs.Masks.{room, isIn, joined}
 use Rattle.senders.specs.MaskLaws.{in-joined, in-none}
 use Rattle.tables.specs.Tables.{table, getD-table}
 use Rattle.store.specs.declared.Store.{Store}
-use Rattle.store.specs.Store.{actions, stamps, places, hasPlace, place, setAt, sendersOf, empty, putAt, put, movedFrom, movedTo}
+use Rattle.store.specs.Store.{actions, stamps, places, hasPlace, place, setAt, sendersOf, empty, putAt, put, turn, leftAt, movedTo}
 use Rattle.store.specs.Places.{Bounds, bounds, place-lt, places-apart}
 
 -- the share of this sender, for this action and stamp, is held
@@ -26,8 +26,8 @@ pub held-empty : (clock : Dts) (a : ℕ) (T : Dts) (i : ℕ) → held (empty clo
 unfolding held sendersOf empty
 held-empty clock a T i = go (hasPlace clock a T) refl
   where
-    go : (b : Bool) → hasPlace clock a T ≡ b → isIn (cond b (setAt (empty clock) (place clock a T)) 0) i ≡ false
-    go true e = ap (λ (m : ℕ). isIn m i) (getD-table places (λ k. 0) (place clock a T) 0 (place-lt clock a T e)) ∙ in-none i
+    go : (b : Bool) → hasPlace clock a T ≡ b → isIn (cond b (setAt (empty clock) (place a T)) 0) i ≡ false
+    go true e = ap (λ (m : ℕ). isIn m i) (getD-table places (λ k. 0) (place a T) 0 (place-lt clock a T e)) ∙ in-none i
     go false e = in-none i
 
 -- only what is fresh is held, and only for an action
@@ -35,7 +35,7 @@ pub held-fresh : (s : Store) (a : ℕ) (T : Dts) (i : ℕ) → held s a T i ≡ 
 unfolding held sendersOf
 held-fresh s a T i e = go (hasPlace (s .clock) a T) e
   where
-    go : (b : Bool) → isIn (cond b (setAt s (place (s .clock) a T)) 0) i ≡ true → b ≡ true
+    go : (b : Bool) → isIn (cond b (setAt s (place a T)) 0) i ≡ true → b ≡ true
     go true e = refl
     go false e = sym (in-none i) ∙ e
 
@@ -57,11 +57,11 @@ told-apart clock a b T U ha hb = go (eqb b a) (eqb (U .0) (T .0)) refl refl
 
 -- what is held for b and U where a share was put at the place of a and T
 held-put-at : (s : Store) (i a : ℕ) (T : Dts) (b : ℕ) (U : Dts) (j : ℕ) (e : Bool) → hasPlace (s .clock) a T ≡ true → hasPlace (s .clock) b U ≡ e
-    → held (putAt s i (place (s .clock) a T)) b U j ≡ (ltb i room && (eqb b a && eqb (U .0) (T .0)) && eqb j i || held s b U j)
+    → held (putAt s i (place a T)) b U j ≡ (ltb i room && (eqb b a && eqb (U .0) (T .0)) && eqb j i || held s b U j)
 unfolding held sendersOf
 held-put-at s i a T b U j true ha hb =
-    let p = place (s .clock) a T in
-    let q = place (s .clock) b U in
+    let p = place a T in
+    let q = place b U in
     simp hb
     (ap (λ (m : ℕ). isIn m j) (getD-table places (λ k. cond (eqb k p) (joined (setAt s p) i) (setAt s k)) q 0 (place-lt (s .clock) b U hb))
     ∙ here (eqb q p) (setAt s p) (setAt s q) (λ e. ap (setAt s) (eqb-true q p e))
@@ -91,7 +91,7 @@ unfolding hasRoomFor put
 held-put s i a T b U j = go (hasPlace (s .clock) a T) refl
   where
     go : (e : Bool) → hasPlace (s .clock) a T ≡ e
-        → held (cond e (putAt s i (place (s .clock) a T)) s) b U j ≡ (e && ltb i room && (eqb b a && eqb (U .0) (T .0)) && eqb j i || held s b U j)
+        → held (cond e (putAt s i (place a T)) s) b U j ≡ (e && ltb i room && (eqb b a && eqb (U .0) (T .0)) && eqb j i || held s b U j)
     go true e = held-put-at s i a T b U j (hasPlace (s .clock) b U) e refl
     go false e = refl
 
@@ -99,7 +99,7 @@ pub clock-put : (s : Store) (i a : ℕ) (T : Dts) → put s i a T .clock ≡ s .
 unfolding put
 clock-put s i a T = go (hasPlace (s .clock) a T)
   where
-    go : (e : Bool) → cond e (putAt s i (place (s .clock) a T)) s .clock ≡ s .clock
+    go : (e : Bool) → cond e (putAt s i (place a T)) s .clock ≡ s .clock
     go true = refl
     go false = refl
 
@@ -108,7 +108,7 @@ unfolding movedTo
 clock-moved s t = go (leb (t .0) (s .clock .0)) refl
   where
     go : (e : Bool) → leb (t .0) (s .clock .0) ≡ e
-        → cond e s (record { clock = t; masks = table places (movedFrom s (t .0 - s .clock .0)) }) .clock .0 ≡ max (s .clock .0) (t .0)
+        → cond e s (record { clock = t; masks = table places (leftAt s (t .0 - s .clock .0)) }) .clock .0 ≡ max (s .clock .0) (t .0)
     go true e = omega (arith, leb-true)
     go false e = omega (arith, leb-false)
 
@@ -124,38 +124,41 @@ still-fresh s a T i = go (held s a T i) refl
     go true e = sym (ap (λ (x : Bool). x && true) (and-eq-true-iff (ltb a actions) (fresh T (s .clock)) .0 (held-fresh s a T i e) .1))
     go false e = keep (fresh T (s .clock))
 
--- a place below the last that a later clock moved a set to, and the one that the set came from
-came-from : (c t : Dts) (a : ℕ) (T : Dts) → c .0 < t .0 → Bounds t a T → place t a T + (t .0 - c .0) ≡ place c a T
-came-from c t a T l b = let x = b .not-old in let y = b .not-ahead in omega arith
-
-in-reach : (c t : Dts) (a : ℕ) (T : Dts) → c .0 < t .0 → Bounds t a T → ltb (place t a T % stamps + (t .0 - c .0)) stamps ≡ fresh T c
-in-reach c t a T l b = go (leb (T .0) (c .0 + window)) refl
+-- of the places that a later clock has for what is fresh there, those fall out whose stamps were not fresh before
+falls-out : (c t : Dts) (a : ℕ) (T : Dts) → c .0 < t .0 → Bounds t a T → ltb (turn c (place a T)) (t .0 - c .0) ≡ not (fresh T c)
+unfolding turn
+falls-out c t a T l b = go (leb (T .0) (c .0 + window)) refl
   where
-    sum : place t a T % stamps + (t .0 - c .0) ≡ T .0 + window - c .0
-    sum = let x = b .not-old in let y = b .not-ahead in omega arith
-
     old : leb (c .0 - window) (T .0) ≡ true
     old = let x = b .not-old in le-leb (c .0 - window) (T .0) (omega arith)
 
-    go : (e : Bool) → leb (T .0) (c .0 + window) ≡ e → ltb (place t a T % stamps + (t .0 - c .0)) stamps ≡ fresh T c
+    go : (e : Bool) → leb (T .0) (c .0 + window) ≡ e → ltb (turn c (place a T)) (t .0 - c .0) ≡ not (fresh T c)
     go true e =
         let near : T .0 ≤ c .0 + window = leb-true (T .0) (c .0 + window) e in
-        ap (λ (n : ℕ). ltb n stamps) sum ∙ lt-ltb (T .0 + window - c .0) stamps (omega arith) ∙ sym (simp (old, e))
+        let x = b .not-old in
+        le-ltb (turn c (place a T)) (t .0 - c .0) (omega arith) ∙ sym (simp (old, e))
     go false e =
         let far : c .0 + window < T .0 = leb-false (T .0) (c .0 + window) e in
-        ap (λ (n : ℕ). ltb n stamps) sum ∙ le-ltb (T .0 + window - c .0) stamps (omega arith) ∙ sym (simp (old, e))
+        let x = b .not-old in
+        let y = b .not-ahead in
+        lt-ltb (turn c (place a T)) (t .0 - c .0) (omega arith) ∙ sym (simp (old, e))
 
 moved-on : (s : Store) (t : Dts) (a : ℕ) (T : Dts) (i : ℕ) (x f : Bool) → s .clock .0 < t .0 → ltb a actions ≡ x → fresh T t ≡ f
-    → held (record { clock = t; masks = table places (movedFrom s (t .0 - s .clock .0)) }) a T i ≡ (f && held s a T i)
-unfolding held sendersOf hasPlace movedFrom
+    → held (record { clock = t; masks = table places (leftAt s (t .0 - s .clock .0)) }) a T i ≡ (f && held s a T i)
+unfolding held sendersOf hasPlace leftAt
 moved-on s t a T i true true l ex ef =
     let has : hasPlace t a T ≡ true = simp (ex, ef) in
     let b = bounds t a T has in
     let c = s .clock in
     simp (ex, ef)
     (ap (λ (m : ℕ). isIn m i)
-    (getD-table places (movedFrom s (t .0 - c .0)) (place t a T) 0 (place-lt t a T has)
-    ∙ ap₂ (λ (z : Bool) (k : ℕ). cond z (setAt s k) 0) (in-reach c t a T l b) (came-from c t a T l b)))
+    (getD-table places (leftAt s (t .0 - c .0)) (place a T) 0 (place-lt t a T has)
+    ∙ ap (λ (z : Bool). cond z 0 (setAt s (place a T))) (falls-out c t a T l b)
+    ∙ other (fresh T c)))
+  where
+    other : (z : Bool) → cond (not z) 0 (setAt s (place a T)) ≡ cond z (setAt s (place a T)) 0
+    other true = refl
+    other false = refl
 moved-on s t a T i false true l ex ef = simp ex
 moved-on s t a T i true false l ex ef = simp (ex, ef) (in-none i)
 moved-on s t a T i false false l ex ef = simp ex (in-none i)
@@ -166,7 +169,7 @@ unfolding movedTo
 held-moved s t a T i = go (leb (t .0) (s .clock .0)) refl
   where
     go : (e : Bool) → leb (t .0) (s .clock .0) ≡ e
-        → held (cond e s (record { clock = t; masks = table places (movedFrom s (t .0 - s .clock .0)) })) a T i
-        ≡ (fresh T (cond e s (record { clock = t; masks = table places (movedFrom s (t .0 - s .clock .0)) }) .clock) && held s a T i)
+        → held (cond e s (record { clock = t; masks = table places (leftAt s (t .0 - s .clock .0)) })) a T i
+        ≡ (fresh T (cond e s (record { clock = t; masks = table places (leftAt s (t .0 - s .clock .0)) }) .clock) && held s a T i)
     go true e = still-fresh s a T i
     go false e = moved-on s t a T i (ltb a actions) (fresh T t) (leb-false (t .0) (s .clock .0) e) refl refl

@@ -1,5 +1,5 @@
 -- Facts on places. They are for the store's own proofs, and nothing above cites them.
-use Prim.Native.Nat.{ℕ, _+_, _*_, _-_, _≤_, _<_}
+use Prim.Native.Nat.{ℕ, _+_, _*_, _-_, _%_, _≤_, _<_}
 use mathlib.Core.Path.{_≡_, refl, sym, ap, ap₂}
 use mathlib.Core.Bool.{Bool, true, false, _&&_, cond, and-eq-true-iff}
 use mathlib.Core.List.{List, [], _∷_}
@@ -30,20 +30,15 @@ bounds clock a T e =
     let low : clock .0 - window ≤ T .0 = leb-true _ _ (q .0) in
     record { action-fits = ltb-true a actions (p .0); not-old = omega arith; not-ahead = leb-true _ _ (q .1) }
 
-pub fresh-low : (T clock : Dts) → fresh T clock ≡ true → clock .0 ≤ T .0 + window
-fresh-low T clock e =
-    let low : clock .0 - window ≤ T .0 = leb-true _ _ (and-eq-true-iff _ _ .0 e .0) in
-    omega arith
-
-pub place-lt : (clock : Dts) (a : ℕ) (T : Dts) → hasPlace clock a T ≡ true → place clock a T < places
+pub place-lt : (clock : Dts) (a : ℕ) (T : Dts) → hasPlace clock a T ≡ true → place a T < places
 place-lt clock a T e = let b = bounds clock a T e in omega arith
 
 -- what `placeOf` says of whether there is a place, and which
-pub found : (clock : Dts) (a : ℕ) (T : Dts) (k : ℕ) → placeOf clock a T ≡ At k → (hasPlace clock a T ≡ true) × (place clock a T ≡ k)
+pub found : (clock : Dts) (a : ℕ) (T : Dts) (k : ℕ) → placeOf clock a T ≡ At k → (hasPlace clock a T ≡ true) × (place a T ≡ k)
 unfolding placeOf
 found clock a T k e = go (hasPlace clock a T) e
   where
-    go : (b : Bool) → cond b (At (place clock a T)) Nowhere ≡ At k → (b ≡ true) × (place clock a T ≡ k)
+    go : (b : Bool) → cond b (At (place a T)) Nowhere ≡ At k → (b ≡ true) × (place a T ≡ k)
     go true q = (refl, cc)
     go false q = (let z : _≡_ {A = ℕ} 0 1 = cc in absurd (omega arith), cc)
 
@@ -54,31 +49,31 @@ pub not-found : (clock : Dts) (a : ℕ) (T : Dts) → placeOf clock a T ≡ Nowh
 unfolding placeOf
 not-found clock a T e = go (hasPlace clock a T) e
   where
-    go : (b : Bool) → cond b (At (place clock a T)) Nowhere ≡ Nowhere → b ≡ false
+    go : (b : Bool) → cond b (At (place a T)) Nowhere ≡ Nowhere → b ≡ false
     go true q = let z : _≡_ {A = ℕ} 0 1 = cc in absurd (omega arith)
     go false q = refl
 
 -- two of an action and a stamp have one place only where they are the same
 pub places-apart : (clock : Dts) (a b : ℕ) (T U : Dts) → hasPlace clock a T ≡ true → hasPlace clock b U ≡ true
-    → eqb (place clock b U) (place clock a T) ≡ (eqb b a && eqb (U .0) (T .0))
+    → eqb (place b U) (place a T) ≡ (eqb b a && eqb (U .0) (T .0))
 places-apart clock a b T U ha hb = go (eqb b a) (eqb (U .0) (T .0)) refl refl
   where
-    go : (x y : Bool) → eqb b a ≡ x → eqb (U .0) (T .0) ≡ y → eqb (place clock b U) (place clock a T) ≡ (x && y)
+    go : (x y : Bool) → eqb b a ≡ x → eqb (U .0) (T .0) ≡ y → eqb (place b U) (place a T) ≡ (x && y)
     go true true ex ey =
         let p : b ≡ a = eqb-true b a ex in
         let q : U .0 ≡ T .0 = eqb-true (U .0) (T .0) ey in
-        eq-eqb _ _ (ap₂ (λ (i j : ℕ). i * stamps + (j + window - clock .0)) p q)
+        eq-eqb _ _ (ap₂ (λ (i j : ℕ). i * stamps + j % stamps) p q)
     go true false ex ey =
         let p : b ≡ a = eqb-true b a ex in
         let q = eqb-false (U .0) (T .0) ey in
         let m = bounds clock a T ha in
         let n = bounds clock b U hb in
-        ne-eqb _ _ (λ (e : place clock b U ≡ place clock a T). q (omega arith))
+        ne-eqb _ _ (λ (e : place b U ≡ place a T). q (omega arith))
     go false y ex ey =
         let p = eqb-false b a ex in
         let m = bounds clock a T ha in
         let n = bounds clock b U hb in
-        ne-eqb _ _ (λ (e : place clock b U ≡ place clock a T). p (omega arith))
+        ne-eqb _ _ (λ (e : place b U ≡ place a T). p (omega arith))
 
 -- the array that a store to one place leaves is the one that `put` names
 pub put-is : (s : Store) (sender a : ℕ) (T : Dts) (k : ℕ) → length (s .masks) ≡ places → placeOf (s .clock) a T ≡ At k

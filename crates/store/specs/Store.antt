@@ -27,12 +27,12 @@ places = 10
 unfoldable pub hasPlace : Dts → ℕ → Dts → Bool
 hasPlace clock action T = ltb action actions && fresh T clock
 
--- five places for each action, the oldest fresh stamp first
-abbrev pub place : Dts → ℕ → Dts → ℕ
-place clock action T = action * stamps + (T .0 + window - clock .0)
+-- "Keep each stamp's senders in a place fixed by the stamp" (02, §2): five places for each action, a stamp's by its remainder
+abbrev pub place : ℕ → Dts → ℕ
+place action T = action * stamps + T .0 % stamps
 
 unfoldable pub placeOf : Dts → ℕ → Dts → Place
-placeOf clock action T = cond (hasPlace clock action T) (At (place clock action T)) Nowhere
+placeOf clock action T = cond (hasPlace clock action T) (At (place action T)) Nowhere
 
 -- the set at a place
 abbrev pub setAt : Store → ℕ → ℕ
@@ -40,7 +40,7 @@ setAt s k = getD (s .masks) k 0
 
 -- the senders held for an action and a stamp
 unfoldable pub sendersOf : Store → ℕ → Dts → ℕ
-sendersOf s action T = cond (hasPlace (s .clock) action T) (setAt s (place (s .clock) action T)) 0
+sendersOf s action T = cond (hasPlace (s .clock) action T) (setAt s (place action T)) 0
 
 unfoldable pub empty : Dts → Store
 empty clock = record { clock = clock; masks = table places (λ k. 0) }
@@ -50,17 +50,26 @@ abbrev pub putAt : Store → ℕ → ℕ → Store
 putAt s sender p = record { clock = s .clock; masks = table places (λ k. cond (eqb k p) (joined (setAt s p) sender) (setAt s k)) }
 
 unfoldable pub put : Store → ℕ → ℕ → Dts → Store
-put s sender action T = cond (hasPlace (s .clock) action T) (putAt s sender (place (s .clock) action T)) s
+put s sender action T = cond (hasPlace (s .clock) action T) (putAt s sender (place action T)) s
 
--- "A stamp no longer fresh is forgotten and its room used again": each set moves down by as many places as the clock went up
-unfoldable pub movedFrom : Store → ℕ → ℕ → ℕ
-movedFrom s by k = cond (ltb (k % stamps + by) stamps) (setAt s (k + by)) 0
+-- the place of the oldest stamp of a clock's window, clock − 2: five more have the same remainder, and below clock 2 are none too few
+abbrev pub oldest : Dts → ℕ
+oldest clock = (clock .0 + stamps - window) % stamps
+
+-- how many places of the window, from its oldest stamp's on, come before this one
+unfoldable pub turn : Dts → ℕ → ℕ
+turn clock k = (k + stamps - oldest clock) % stamps
+
+-- "A stamp no longer fresh is forgotten and its room used again"; "clear only the places that fall out. A jump of five or more clears them
+-- all." (02, §2): as many fall out, from the oldest stamp's on, as the clock goes up by; there are five, so five or more are all
+unfoldable pub leftAt : Store → ℕ → ℕ → ℕ
+leftAt s by k = cond (ltb (turn (s .clock) k) by) 0 (setAt s k)
 
 unfoldable pub movedTo : Store → Dts → Store
 movedTo s clock =
     cond (leb (clock .0) (s .clock .0))
     s
-    (record { clock = clock; masks = table places (movedFrom s (clock .0 - s .clock .0)) })
+    (record { clock = clock; masks = table places (leftAt s (clock .0 - s .clock .0)) })
 
 -- every sender at every place is below n
 abbrev pub allWithin : List ℕ → ℕ → Bool

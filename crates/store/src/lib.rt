@@ -2,9 +2,9 @@
 // knows its clock, and a share is held only while its stamp is fresh there.
 use time::Dts;
 use time::WINDOW;
-ghost use Prim.Native.Nat.{_+_, _*_, _-_, _<_};
+ghost use Prim.Native.Nat.{_<_};
 ghost use mathlib.Core.Path.{_≡_};
-ghost use Rattle.store.specs.Store.{placeOf, empty, put, movedFrom, movedTo, sendersOf, storeWithin};
+ghost use Rattle.store.specs.Store.{placeOf, empty, put, turn, movedTo, sendersOf, storeWithin};
 ghost use Rattle.store.specs.Earliest.{freshStamp, qualifies, earliest};
 
 pub struct Store {
@@ -23,7 +23,7 @@ pub enum Earliest {
     Nothing,
 }
 
-// Places go by how far the stamp is from the clock: five for each action.
+// A stamp's place goes by its remainder: five places for each action.
 fn place_of(clock: Dts, action: u8, stamp: Dts) -> Place
     ensures { λ out. ⌜ out ≡ placeOf clock action stamp ⌝ }
 {
@@ -31,11 +31,19 @@ fn place_of(clock: Dts, action: u8, stamp: Dts) -> Place
         return Place::Nowhere;
     }
     if time::is_fresh(stamp, clock) {
-        let offset = stamp.0 as usize + WINDOW as usize - clock.0 as usize;
-        Place::At(action as usize * 5 + offset)
+        Place::At(action as usize * 5 + (stamp.0 % 5) as usize)
     } else {
         Place::Nowhere
     }
+}
+
+// How many places of a clock's window come before a place, from the oldest stamp's on.
+fn turn(clock: Dts, at: u32) -> u32
+    requires { ⌜ at < 5 ⌝ }
+    ensures { λ out. ⌜ out ≡ turn clock at ⌝ }
+{
+    let oldest = (clock.0 % 5 + 3) % 5;
+    (at + 5 - oldest) % 5
 }
 
 // The stamps that are fresh at a clock, counted from the oldest.
@@ -87,24 +95,9 @@ impl Store {
         self.masks[at]
     }
 
-    // The set that stands at a place once the clock went up.
-    fn moved_from(self, at: usize, by: u32) -> u16
-        requires { ⌜ at < 10 ⌝ }
-        ensures { λ out. ⌜ out ≡ movedFrom self by at ⌝ }
-    {
-        if 5 <= by {
-            return 0;
-        }
-        let from = at + by as usize;
-        if at % 5 + (by as usize) < 5 {
-            self.masks[from]
-        } else {
-            0
-        }
-    }
-
-    // The store at a later clock: stamps no longer fresh are forgotten, and their room is used again. No clock goes back.
-    pub fn move_to(self, clock: Dts) -> Store
+    // The store at a later clock: stamps no longer fresh are forgotten, and their room is used again. No clock goes back. Only the places that
+    // fall out are written to, and there is one array throughout.
+    pub fn move_to(mut self, clock: Dts) -> Store
         ensures { λ out. ⌜ out ≡ movedTo self clock ⌝ }
     {
         let now = self.clock;
@@ -112,13 +105,19 @@ impl Store {
             return self;
         }
         let by = clock.0 - now.0;
-        let mut masks = [0u16; 10];
-        let mut i = 0;
-        while i < 10 {
-            masks[i] = self.moved_from(i, by);
-            i += 1;
+        if 5 <= by {
+            return Store::empty(clock);
         }
-        Store { clock, masks }
+        self.clock = clock;
+        let mut at = 0;
+        while at < 5 {
+            if turn(now, at) < by {
+                self.masks[at as usize] = 0;
+                self.masks[at as usize + 5] = 0;
+            }
+            at += 1;
+        }
+        self
     }
 
     // Whether a stamp is above a bound and held from at least f + 1 senders for an action.

@@ -1,24 +1,23 @@
-use Prim.Native.Nat.{ℕ, _≤_, _<_, _-_}
-use mathlib.Core.Path.{_≡_, refl, ap, _∙_}
-use mathlib.Core.List.{List}
-use native.Mathlib.Nat.{not-suc-le-zero}
+use Prim.Native.Nat.{_≤_, _-_}
+use mathlib.Core.Path.{_≡_, _∙_}
+use mathlib.Core.Logic.{inl, inr, ⊎-elim}
 use native.Mathlib.Omega.{arith}
-use lib.ListN.{length, getD, length-set}
 use borrow.Author.Needs.{needs}
-use borrow.Author.Tests.{le-leb, lt-leb}
-use Rattle.tables.specs.Tables.{is-table, filled-more}
-use Rattle.store.specs.Store.{movedFrom, movedTo}
+use borrow.Author.Tests.{le-leb}
+use Rattle.store.specs.Store.{movedTo}
+use Rattle.store.specs.Clearing.{Cleared, none-yet, passed, all-cleared, jump-clears}
 use Rattle.store.proofs.Store.move_to.Statement.{statement}
 use Rattle.store.proofs.Store.move_to.Tie as tie
 use Rattle.store.proofs.Store.move_to.Reads as reads
 use Rattle.store.proofs.Store.move_to.Lts as lts
-use Rattle.store.proofs.Store.moved_from.Reads as moved-from-reads
+use Rattle.store.proofs.Store.empty.Reads as empty-reads
+use Rattle.store.proofs.turn.Reads as turn-reads
 
 abbrev Inv-loop : tie.InvT-loop
-Inv-loop self clock by masks₀ i₀ masks i = (i ≤ 10) × ((length masks ≡ 10) × ((k : ℕ) → k < i → getD masks k 0 ≡ movedFrom self by k))
+Inv-loop self₀ now by at₀ self at = (at ≤ 5) × Cleared (record { clock = now; masks = self₀ .masks }) (self₀ .clock) at self
 
 abbrev μ-loop : tie.MeasureT-loop
-μ-loop self clock by masks₀ i₀ masks i = 10 - i
+μ-loop self₀ now by at₀ self at = 5 - at
 
 returns : tie.Need-returns Inv-loop μ-loop
 unfolding movedTo
@@ -27,44 +26,64 @@ returns c = simp (le-leb _ _ (c .if1 .taken))
 sub-by : tie.Need-sub-by Inv-loop μ-loop
 sub-by c = search needs
 
+empty-requires : tie.Need-empty-requires Inv-loop μ-loop
+empty-requires c κs = search needs
+
+returns-2 : tie.Need-returns-2 Inv-loop μ-loop
+returns-2 c =
+    let a = c .before .before .before .before .before .before .before .before .args in
+    c .empty .ensures ∙ jump-clears (a .t1) (a .clock) (omega arith)
+
 loop-holds : tie.Need-loop-holds Inv-loop μ-loop
-loop-holds c = (omega arith, (refl, λ k h. absurd (not-suc-le-zero h)))
+loop-holds c =
+    let b = c .before .before .before .before .before .before .before in
+    (omega arith, none-yet (b .args .t1) (b .args .clock) (search needs))
 
-moved-from-requires : tie.Need-moved-from-requires Inv-loop μ-loop
-moved-from-requires c κs = search needs
+turn-requires : tie.Need-turn-requires Inv-loop μ-loop
+turn-requires c κs = search needs
 
-mul-masks : tie.Need-mul-masks Inv-loop μ-loop
-mul-masks c = search needs
+cast-self : tie.Need-cast-self Inv-loop μ-loop
+cast-self c = search needs
 
-array-write-masks : tie.Need-array-write-masks Inv-loop μ-loop
-array-write-masks c = search needs
+mul-self : tie.Need-mul-self Inv-loop μ-loop
+mul-self c = search needs
 
-add-i : tie.Need-add-i Inv-loop μ-loop
-add-i c = search needs
+element-write-self : tie.Need-element-write-self Inv-loop μ-loop
+element-write-self c = search needs
+
+cast-self-2 : tie.Need-cast-self-2 Inv-loop μ-loop
+cast-self-2 c = search needs
+
+add-self : tie.Need-add-self Inv-loop μ-loop
+add-self c = search needs
+
+mul-self-2 : tie.Need-mul-self-2 Inv-loop μ-loop
+mul-self-2 c = search needs
+
+element-write-self-2 : tie.Need-element-write-self-2 Inv-loop μ-loop
+element-write-self-2 c = search needs
+
+add-at : tie.Need-add-at Inv-loop μ-loop
+add-at c = search needs
 
 loop-less : tie.Need-loop-less Inv-loop μ-loop
 loop-less c = search needs
 
 loop-again : tie.Need-loop-again Inv-loop μ-loop
 loop-again c =
-    let l = c .before .before in
-    let a = l .before .before .before .before .before .before .before .args in
-    let rule = movedFrom (a .self) (a .clock .0 - a .self .clock .0) in (
+    let l = c .before .before .before in
+    let a = l .before .before .before .before .before .before .before .before .args in (
       omega arith,
-      (
-        length-set (l .loop .masks) (l .loop .i) (c .moved-from .result) ∙ l .loop .inv .1 .0,
-        filled-more (l .loop .masks) rule (l .loop .i) (c .moved-from .result) 0 (omega arith) (c .moved-from .ensures) (l .loop .inv .1 .1),
-      ),
+      passed (a .t1) (a .clock) (l .loop .at) (l .loop .self) (c .if3 .self) (c .before .turn .result) (omega arith) (c .before .turn .ensures) (l .loop .inv .1)
+          (⊎-elim (λ w. inl (w .0 .taken, w .1)) (λ w. inr (w .0 .left, w .1)) (c .if3 .came)),
     )
 
-returns-2 : tie.Need-returns-2 Inv-loop μ-loop
-unfolding movedTo
-returns-2 c =
+returns-3 : tie.Need-returns-3 Inv-loop μ-loop
+returns-3 c =
     let l = c .before in
-    let a = l .before .before .before .before .before .before .before .args in
-    let rule = movedFrom (a .self) (a .clock .0 - a .self .clock .0) in
-    simp (lt-leb _ _ (l .before .before .before .if1 .left))
-    (ap (λ (m : List ℕ). record { clock = a .clock; masks = m }) (is-table 10 (l .loop .masks) rule 0 (l .loop .inv .1 .0) (λ i h. l .loop .inv .1 .1 i (omega arith))))
+    let a = l .before .before .before .before .before .before .before .before .args in
+    let e : l .loop .at ≡ 5 = omega arith in
+    all-cleared (a .t1) (a .clock) (l .loop .self) (l .before .before .before .before .if1 .left) (rw e at (l .loop .inv .1))
 
 pub move-to-spec : {M : Type 1} → statement M
 move-to-spec =
@@ -74,11 +93,18 @@ move-to-spec =
     μ-loop
     returns
     sub-by
+    empty-requires
+    returns-2
     loop-holds
-    moved-from-requires
-    mul-masks
-    array-write-masks
-    add-i
+    turn-requires
+    cast-self
+    mul-self
+    element-write-self
+    cast-self-2
+    add-self
+    mul-self-2
+    element-write-self-2
+    add-at
     loop-less
     loop-again
-    returns-2)
+    returns-3)
