@@ -1,4 +1,6 @@
--- The share store: what it is (Store, over Places), what it holds and how that changes (Held), the earliest stamp held from enough senders
+-- The share store: what it is (Store), what it holds and how that changes (Held), the earliest stamp held from enough senders (Earliest), each sender's
+-- places (Own), what refusal 16 asks (WithinLaws). Then that the laws fix every answer, for any way of keeping shares (Keeping, Alike), and that the
+-- answers are those of the store as it stood before §2 of 02 (Before, AsBefore). Places, Clearing and Turning are for the proofs of these.
 pub mod Store
 pub mod Places
 pub mod Clearing
@@ -11,3 +13,5 @@ pub mod WithinLaws
 pub mod Keeping
 pub mod Alike
 pub mod Before
+pub mod Turning
+pub mod AsBefore
