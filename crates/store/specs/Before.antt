@@ -8,9 +8,9 @@ use Rattle.time.specs.declared.Dts.{Dts}
 use Rattle.time.specs.Fresh.{window}
 use Rattle.tables.specs.Tables.{table}
 use Rattle.store.specs.declared.Store.{Store}
-use Rattle.store.specs.Store.{stamps, places, hasPlace, setAt, sendersOf, empty, putAt, oldest, turn, storeWithin}
+use Rattle.store.specs.Store.{stamps, places, hasPlace, setAt, sendersOf, putAt, oldest, turn, storeWithin}
 use Rattle.store.specs.Earliest.{earliest}
-use Rattle.store.specs.Keeping.{Keeping, earliestIn}
+use Rattle.store.specs.Keeping.{Keeping, inPlaces, earliestIn}
 
 -- five places for each action, the oldest fresh stamp first
 abbrev pub placeBefore : Dts → ℕ → Dts → ℕ
@@ -29,15 +29,7 @@ abbrev pub movedBefore : Store → Dts → Store
 movedBefore s clock = cond (leb (clock .0) (s .clock .0)) s (record { clock = clock; masks = table places (movedFrom s (clock .0 - s .clock .0)) })
 
 abbrev pub before : Keeping
-before = record {
-  Kept = Store;
-  clockOf = λ (s : Store). s .clock;
-  sendersIn = sendersBefore;
-  withinIn = storeWithin;
-  emptyAt = empty;
-  putIn = putBefore;
-  movedOn = movedBefore;
-}
+before = inPlaces sendersBefore putBefore movedBefore
 
 -- where the set of a place stood, and where the set stands that stood at a place
 abbrev pub stood : Dts → ℕ → ℕ

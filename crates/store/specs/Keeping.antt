@@ -24,16 +24,20 @@ pub record Keeping : Type 1 where
   pub putIn : Kept → ℕ → ℕ → Dts → Kept
   pub movedOn : Kept → Dts → Kept
 
-abbrev pub theStore : Keeping
-theStore = record {
+-- in the ten places, by who is held, what a share put leaves and what a later clock leaves
+abbrev pub inPlaces : (Store → ℕ → Dts → ℕ) → (Store → ℕ → ℕ → Dts → Store) → (Store → Dts → Store) → Keeping
+inPlaces senders puts moves = record {
   Kept = Store;
   clockOf = λ (s : Store). s .clock;
-  sendersIn = sendersOf;
+  sendersIn = senders;
   withinIn = storeWithin;
   emptyAt = empty;
-  putIn = put;
-  movedOn = movedTo;
+  putIn = puts;
+  movedOn = moves;
 }
+
+abbrev pub theStore : Keeping
+theStore = inPlaces sendersOf put movedTo
 
 -- what is done with a store, one after the other
 pub data Change : Type 0 where

@@ -52,11 +52,11 @@ putAt s sender p = record { clock = s .clock; masks = table places (λ k. cond (
 unfoldable pub put : Store → ℕ → ℕ → Dts → Store
 put s sender action T = cond (hasPlace (s .clock) action T) (putAt s sender (place action T)) s
 
--- the place of the oldest stamp of a clock's window, clock − 2: five more have the same remainder, and below clock 2 are none too few
+-- the remainder of the oldest stamp of a clock's window, clock − 2; with five more it is the same, and nothing goes below 0
 abbrev pub oldest : Dts → ℕ
 oldest clock = (clock .0 + stamps - window) % stamps
 
--- how many places of the window, from its oldest stamp's on, come before this one
+-- how many remainders come before that of a place, from the oldest stamp's on
 unfoldable pub turn : Dts → ℕ → ℕ
 turn clock k = (k + stamps - oldest clock) % stamps
 

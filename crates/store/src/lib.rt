@@ -37,7 +37,7 @@ fn place_of(clock: Dts, action: u8, stamp: Dts) -> Place
     }
 }
 
-// How many places of a clock's window come before a place, from the oldest stamp's on.
+// How many remainders come before that of a place, from the one of the oldest stamp of the clock's window on.
 fn turn(clock: Dts, at: u32) -> u32
     requires { ⌜ at < 5 ⌝ }
     ensures { λ out. ⌜ out ≡ turn clock at ⌝ }
@@ -95,8 +95,8 @@ impl Store {
         self.masks[at]
     }
 
-    // The store at a later clock: stamps no longer fresh are forgotten, and their room is used again. No clock goes back. Only the places that
-    // fall out are written to, and there is one array throughout.
+    // The store at a later clock: stamps no longer fresh are forgotten, and their room is used again. No clock goes back. The places that fall
+    // out are cleared in the array that there is; after five or more none is left, and the store is an empty one.
     pub fn move_to(mut self, clock: Dts) -> Store
         ensures { λ out. ⌜ out ≡ movedTo self clock ⌝ }
     {
