@@ -300,16 +300,16 @@ impl Site {
         if signers.count_ones() < self.threshold {
             return 8;
         }
-        if status == self.status {
-            return 10;
+        if status != self.status {
+            if stamp <= self.stamp {
+                return 11;
+            }
+            (self.status, self.stamp) = (status, stamp.max(t));
+            self.changes[(self.changed & 7) as usize] = (status, self.stamp);
+            self.changed += 1;
         }
-        if stamp <= self.stamp {
-            return 11;
-        }
-        (self.status, self.stamp, self.clock) = (status, stamp.max(t), t);
-        self.changes[(self.changed & 7) as usize] = (status, self.stamp);
-        self.changed += 1;
-        out.push(b'A', 0, status, self.stamp);
+        self.clock = t;
+        out.push(b'A', 0, self.status, self.stamp);
         0
     }
 

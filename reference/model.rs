@@ -190,12 +190,14 @@ impl Model {
             Step::Start { .. } => unreachable!(),
             Step::Tick => site.g += 1,
             Step::Command { t, status, stamp } => {
-                let stamp = u64::from(stamp).max(u64::from(t));
-                let change = Pair { status: Status::of(status).unwrap(), stamp };
-                site.breaker = change;
+                let status = Status::of(status).unwrap();
                 site.breaker_clock = Some(u64::from(t));
-                site.changes.push(change);
-                return vec![Sent::Ack(change)];
+                // A command for the status that the breaker has is answered and is no change (request 4).
+                if status != site.breaker.status {
+                    site.breaker = Pair { status, stamp: u64::from(stamp).max(u64::from(t)) };
+                    site.changes.push(site.breaker);
+                }
+                return vec![Sent::Ack(site.breaker)];
             }
             Step::Down { node } => {
                 site.nodes.insert(node, Record::Down);

@@ -141,8 +141,11 @@ impl Site {
                 },
                 _ => false,
             },
-            10 => matches!(step, Step::Command { .. }) && step.signed().unwrap().status == self.breaker.status,
-            11 => matches!(step, Step::Command { .. }) && step.signed().unwrap().stamp <= self.breaker.stamp,
+            // Row 10 is no step's, and row 11 speaks of commands that would change the status (request 4).
+            11 => {
+                let command = matches!(step, Step::Command { .. }).then(|| step.signed().unwrap());
+                command.is_some_and(|it| it.status != self.breaker.status && it.stamp <= self.breaker.stamp)
+            }
             12 => match (step, step.acting().map(|node| &self.nodes[&node])) {
                 (Step::ShareTimeout { .. }, Some(Record::Running(node))) => !matches!(node.state(), State::Attempt(_)),
                 (Step::ResendTimeout { .. }, Some(Record::Running(node))) => node.resend.is_none(),

@@ -132,7 +132,8 @@ fn conditions(program: &str) -> Result<(), String> {
     let actions = 50;
     each(ALL.into_iter(), |(which, name)| {
         let lines = compare(program, name, &condition(which, actions), usize::MAX)?;
-        let changes = lines.lines().filter(|line| line.rsplit(' ').next().unwrap().starts_with('A')).count();
+        let statuses: Vec<_> = lines.lines().map(|line| line.split(' ').nth(2)).collect();
+        let changes = statuses.windows(2).filter(|next| next[0] != next[1]).count();
         match changes as u64 == actions {
             true => Ok(()),
             false => Err(format!("{name}: {actions} actions, but {changes} changes of the breaker")),

@@ -38,10 +38,23 @@ remembered changes p =
       count = cond (ltb (changes .count) mostChanges) (changes .count + 1) mostChanges;
     }
 
--- "Accepted, the breaker becomes (A, larger of T and t), sends the ack of that pair and remembers it."
+-- ---- an accepted command
+
+-- "A command for the status the breaker has" (§4 of 02)
+abbrev pub repeats : Breaker → ℕ → Bool
+repeats breaker status = eqb status (breaker .pair .status)
+
+-- such a command "changes nothing but the breaker's clock" (§4 of 02)
+unfoldable pub answered : Breaker → Dts → Breaker
+answered breaker t = record { pair = breaker .pair; clock = t; changes = breaker .changes }
+
+-- Any other changes the status: "Accepted, the breaker becomes (A, larger of T and t), sends the ack of that pair and remembers it."
 unfoldable pub changed : Breaker → Dts → ℕ → Dts → Breaker
 changed breaker t status T =
     record { pair = pair status (larger T t); clock = t; changes = remembered (breaker .changes) (pair status (larger T t)) }
+
+unfoldable pub afterCommand : Breaker → Dts → ℕ → Dts → Breaker
+afterCommand breaker t status T = cond (repeats breaker status) (answered breaker t) (changed breaker t status T)
 
 -- "Delivers the breaker's change number `back` from the newest (0), of the last eight."
 unfoldable pub changeAt : Breaker → ℕ → Known

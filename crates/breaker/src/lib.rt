@@ -4,7 +4,7 @@ use pairs::Pair;
 use time::Dts;
 use time::LAST_HELD;
 ghost use mathlib.Core.Path.{_≡_};
-ghost use Rattle.breaker.specs.Breaker.{remembered, started, changed, changeAt, pairSound, changesSound, breakerSound};
+ghost use Rattle.breaker.specs.Breaker.{remembered, started, answered, changed, afterCommand, changeAt, pairSound, changesSound, breakerSound};
 
 // Changes, the newest first.
 pub struct Changes {
@@ -50,8 +50,21 @@ fn remember(changes: Changes, pair: Pair) -> Changes
     }
 }
 
-// The breaker after an accepted command.
-pub fn change(breaker: Breaker, t: Dts, status: u8, stamp: Dts) -> Breaker
+// The breaker after a command for the status that it has.
+fn answer(breaker: Breaker, t: Dts) -> Breaker
+    ensures { λ out. ⌜ out ≡ answered breaker t ⌝ }
+{
+    let pair = breaker.pair;
+    let changes = breaker.changes;
+    Breaker {
+        pair,
+        clock: t,
+        changes,
+    }
+}
+
+// The breaker after a command for the other status.
+fn change(breaker: Breaker, t: Dts, status: u8, stamp: Dts) -> Breaker
     ensures { λ out. ⌜ out ≡ changed breaker t status stamp ⌝ }
 {
     let pair = Pair {
@@ -64,6 +77,17 @@ pub fn change(breaker: Breaker, t: Dts, status: u8, stamp: Dts) -> Breaker
         pair,
         clock: t,
         changes,
+    }
+}
+
+// The breaker after an accepted command.
+pub fn command(breaker: Breaker, t: Dts, status: u8, stamp: Dts) -> Breaker
+    ensures { λ out. ⌜ out ≡ afterCommand breaker t status stamp ⌝ }
+{
+    if status == breaker.pair.status {
+        answer(breaker, t)
+    } else {
+        change(breaker, t, status, stamp)
     }
 }
 

@@ -18,7 +18,7 @@ use Rattle.pairs.specs.declared.Pair.{Pair}
 use Rattle.pairs.specs.Pair.{pair}
 use Rattle.node.specs.State.{State, Done, Attempt, Wait, state}
 use Rattle.events.specs.Events.{wentDown}
-use Rattle.breaker.specs.Breaker.{started, changed, remembered, changesSound, breakerSound}
+use Rattle.breaker.specs.Breaker.{started, changed, afterCommand, remembered, changesSound, breakerSound}
 use Rattle.steps.specs.declared.Step.{Step}
 use Rattle.steps.specs.declared.Step.the-variants.{Start, Command}
 use Rattle.site.specs.declared.Site.{Site}
@@ -103,5 +103,5 @@ all [] = true
 all (e ∷ es) = e .1 && all es
 
 pub every-edge : all edges ≡ true
-unfolding edges discretised refusal passed state newer ahead size countBelow isIn joined within together stepped testsOf effectOf siteSound setsSound storeWithin breakerSound changesSound commanded changed remembered started startedSite sendersOf hasPlace put empty table wentDown
+unfolding edges discretised refusal passed state newer ahead size countBelow isIn joined within together stepped testsOf effectOf siteSound setsSound storeWithin breakerSound changesSound commanded afterCommand changed remembered started startedSite sendersOf hasPlace put empty table wentDown
 every-edge = refl

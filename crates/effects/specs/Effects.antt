@@ -5,6 +5,7 @@ use Rattle.time.specs.declared.Dts.{Dts}
 use Rattle.time.specs.Fresh.{next}
 use Rattle.senders.specs.Masks.{isIn, joined, without}
 use Rattle.store.specs.Store.{empty, movedTo}
+use Rattle.pairs.specs.declared.Pair.{Pair}
 use Rattle.pairs.specs.declared.Known.{Known}
 use Rattle.pairs.specs.declared.Known.the-variants.{Yes, No}
 use Rattle.pairs.specs.declared.Pairs.the-variants.{Zero}
@@ -15,9 +16,10 @@ use Rattle.node.specs.declared.Acted.{Acted}
 use Rattle.combining.specs.Combining.{putAll, finished}
 use Rattle.events.specs.Events.{quiet, reported, delivered, shareTimedOut, resendTimedOut, acked, queried, wentDown, wentUp}
 use Rattle.breaker.specs.declared.Breaker.{Breaker}
-use Rattle.breaker.specs.Breaker.{started, changed, changeAt}
+use Rattle.breaker.specs.Breaker.{started, afterCommand, changeAt}
 use Rattle.store.specs.declared.Store.{Store}
 use Rattle.site.specs.declared.Site.{Site}
+use Rattle.site.specs.declared.Sent.{Sent}
 use Rattle.site.specs.declared.Out.{Out}
 use Rattle.site.specs.Site.{g}
 use Rattle.site.specs.Answers.{silence, done}
@@ -96,12 +98,15 @@ abbrev pub ackedKnown : Node → Dts → Known → Acted
 ackedKnown node t (Yes change) = acked node t change
 ackedKnown node t No = quiet node
 
--- "the breaker becomes (A, larger of T and t), sends the ack of that pair and remembers it"
-abbrev pub commandedBy : Site → Node → Breaker → Out
-commandedBy site node breaker = done (record { shares = Zero; commands = Zero; ack = Yes (breaker .pair) }) (withBreaker site breaker) node
+-- an ack, and nothing else
+abbrev pub onlyAck : Pair → Sent
+onlyAck p = record { shares = Zero; commands = Zero; ack = Yes p }
 
+-- A change "sends the ack of that pair"; a repeated command "sends the ack of the breaker's present pair" (§4 of 02). Both are the pair that the
+-- breaker then has.
 unfoldable pub commanded : Site → Node → Dts → ℕ → Dts → Out
-commanded site node t status T = commandedBy site node (changed (site .breaker) t status T)
+commanded site node t status T =
+    done (onlyAck (afterCommand (site .breaker) t status T .pair)) (withBreaker site (afterCommand (site .breaker) t status T)) node
 
 -- what each step does
 unfoldable pub effectOf : Site → Node → Step → Out

@@ -122,7 +122,7 @@ fn command(site: Site, node: Node, t: Dts, status: u8, stamp: Dts) -> Out
     ensures { λ out. ⌜ out ≡ commanded site node t status stamp ⌝ }
 {
     let old = site.breaker;
-    let breaker = breaker::change(old, t, status, stamp);
+    let breaker = breaker::command(old, t, status, stamp);
     let pair = breaker.pair;
     let next = with_breaker(site, breaker);
     let sent = Sent {

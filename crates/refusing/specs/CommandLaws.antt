@@ -1,8 +1,9 @@
 -- What an accepted command says: the shares behind it, and its stamp.
 use Prim.Native.Nat.{ℕ, _+_, _≤_, _<_}
-use mathlib.Core.Path.{_≡_}
-use mathlib.Core.Bool.{true, false}
+use mathlib.Core.Path.{_≡_, sym, ap, _∙_}
+use mathlib.Core.Bool.{Bool, true, false, _||_}
 use native.Mathlib.Omega.{arith}
+use lib.Dec.{ltb}
 use borrow.Author.Tests.{leb-true, ltb-true}
 use Rattle.refusals.specs.Tests.{passed, each-passed}
 use Rattle.time.specs.declared.Dts.{Dts}
@@ -11,6 +12,7 @@ use Rattle.senders.specs.Masks.{isIn, size, room}
 use Rattle.senders.specs.MaskLaws.{in-together}
 use Rattle.store.specs.Store.{sendersOf}
 use Rattle.store.specs.Held.{held}
+use Rattle.breaker.specs.Breaker.{repeats}
 use Rattle.site.specs.declared.Site.{Site}
 use Rattle.refusing.specs.Tests.{counted, verdict, commandTests}
 
@@ -25,6 +27,8 @@ shared-by-one site A T few says =
     let found = vouched room (site .f) (isIn (site .compromised)) (isIn (sendersOf (site .made) A T)) few (omega (arith, enough, same)) in
     (found .0, found .3, found .2)
 
--- its stamp is above the breaker's
-pub stamp-above : (site : Site) (lent : ℕ) (t : Dts) (A : ℕ) (T : Dts) → passed (commandTests site lent t A T) ≡ true → site .breaker .pair .stamp .0 < T .0
-stamp-above site lent t A T ok = ltb-true _ _ (each-passed 7 _ ok)
+-- where it changes the status, its stamp is above the breaker's
+pub stamp-above : (site : Site) (lent : ℕ) (t : Dts) (A : ℕ) (T : Dts) → passed (commandTests site lent t A T) ≡ true → repeats (site .breaker) A ≡ false
+    → site .breaker .pair .stamp .0 < T .0
+stamp-above site lent t A T ok changes =
+    ltb-true _ _ (ap (λ (same : Bool). same || ltb (site .breaker .pair .stamp .0) (T .0)) (sym changes) ∙ each-passed 6 _ ok)

@@ -1,6 +1,6 @@
 -- What the functions inside this crate promise: the lists of tests, cut as the code goes through them.
 use Prim.Native.Nat.{ℕ, _+_}
-use mathlib.Core.Bool.{Bool, true, not, _&&_}
+use mathlib.Core.Bool.{Bool, true, not, _&&_, _||_}
 use mathlib.Core.List.{List, [], _∷_, _++_}
 use lib.Dec.{eqb, leb, ltb}
 use Rattle.refusals.specs.Tests.{Test}
@@ -11,6 +11,7 @@ use Rattle.steps.specs.declared.Step.{Step}
 use Rattle.steps.specs.declared.Step.the-variants.{Start, Tick, Report, Deliver, ShareTimeout, ResendTimeout, Command, Ack, Query, Down, Up}
 use Rattle.node.specs.declared.Node.{Node}
 use Rattle.node.specs.Asked.{isDown, isStarting, isRunning, isNew, inAttempt, armed}
+use Rattle.breaker.specs.Breaker.{repeats}
 use Rattle.site.specs.declared.Site.{Site}
 use Rattle.site.specs.Site.{g, lastG, actorSound}
 use Rattle.refusing.specs.Tests.{isNow, isNode, isStatus, verdict, canDeliver}
@@ -34,8 +35,7 @@ abbrev pub commandLast : Site → Dts → ℕ → Dts → List Test
 commandLast site t status T =
     (7, fresh T t)
     ∷ (8, verdict site status T)
-    ∷ (10, not (eqb status (site .breaker .pair .status)))
-    ∷ (11, ltb (site .breaker .pair .stamp .0) (T .0))
+    ∷ (11, repeats (site .breaker) status || ltb (site .breaker .pair .stamp .0) (T .0))
     ∷ []
 
 -- what is left of a step's tests once the site is found to be sound

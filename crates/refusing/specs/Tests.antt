@@ -13,6 +13,7 @@ use Rattle.steps.specs.declared.Step.{Step}
 use Rattle.steps.specs.declared.Step.the-variants.{Start, Tick, Report, Deliver, ShareTimeout, ResendTimeout, Command, Ack, Query, Down, Up}
 use Rattle.node.specs.declared.Node.{Node}
 use Rattle.node.specs.Asked.{isDown, isStarting, isRunning, isNew, inAttempt, armed}
+use Rattle.breaker.specs.Breaker.{repeats}
 use Rattle.site.specs.declared.Site.{Site}
 use Rattle.site.specs.Site.{nodes, n, g, mostF, mostK, firstG, lastStartG, lastG, siteSound, actorSound}
 
@@ -97,6 +98,7 @@ resendTimeoutTests site lent node i t =
     ∷ (12, armed node)
     ∷ []
 
+-- "10 is not given by Command from then on, and 11 only for a command that would change the status" (§4 of 02)
 abbrev pub commandTests : Site → ℕ → Dts → ℕ → Dts → List Test
 commandTests site lent t status T =
     (16, siteSound site lent)
@@ -105,8 +107,7 @@ commandTests site lent t status T =
     ∷ (6, leb (site .breaker .clock .0) (t .0))
     ∷ (7, fresh T t)
     ∷ (8, verdict site status T)
-    ∷ (10, not (eqb status (site .breaker .pair .status)))
-    ∷ (11, ltb (site .breaker .pair .stamp .0) (T .0))
+    ∷ (11, repeats (site .breaker) status || ltb (site .breaker .pair .stamp .0) (T .0))
     ∷ []
 
 abbrev pub ackTests : Site → ℕ → Node → ℕ → Dts → ℕ → List Test

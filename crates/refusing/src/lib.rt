@@ -172,7 +172,7 @@ fn command_first(site: Site, t: Dts, status: u8) -> u8
     first(a, first(b, c))
 }
 
-// Tests 7, 8, 10 and 11 of a command.
+// Tests 7, 8 and 11 of a command.
 fn command_last(site: Site, t: Dts, status: u8, stamp: Dts) -> u8
     ensures { λ out. ⌜ out ≡ refusal (commandLast site t status stamp) ⌝ }
 {
@@ -180,9 +180,9 @@ fn command_last(site: Site, t: Dts, status: u8, stamp: Dts) -> u8
     let yes = is_verdict_yes(site, status, stamp);
     let a = test(7, fresh);
     let b = test(8, yes);
-    let c = test(10, status != site.breaker.pair.status);
-    let d = test(11, site.breaker.pair.stamp.0 < stamp.0);
-    first(a, first(b, first(c, d)))
+    let repeats = status == site.breaker.pair.status;
+    let c = test(11, repeats | (site.breaker.pair.stamp.0 < stamp.0));
+    first(a, first(b, c))
 }
 
 fn refuse_command(site: Site, t: Dts, status: u8, stamp: Dts) -> u8

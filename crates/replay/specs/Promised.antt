@@ -15,10 +15,10 @@ use Rattle.run.specs.Turns.{firstRun}
 use Rattle.run.specs.Blocks.{ranOf, Block}
 use Rattle.sequences.specs.History.{Entry, lastStart}
 use Rattle.sequences.specs.Moments.{Reached, from, Accepts}
-use Rattle.sequences.specs.Demand.{AtMostF, SharedByACorrectNode, StampsRise, RunsAsTold, HeldExactly, NoneLeft, MovedBySending}
+use Rattle.sequences.specs.Demand.{AtMostF, StatusAsTold, SharedByACorrectNode, StampsRise, RunsAsTold, HeldExactly, NoneLeft, MovedBySending}
 use Rattle.sequences.specs.Started.{started-before}
 use Rattle.sequences.specs.Sending.{moved-by-sending}
-use Rattle.sequences.specs.Proved.{at-most-f, shared-by-a-correct-node, stamps-rise, runs-as-told, held-exactly, none-left}
+use Rattle.sequences.specs.Proved.{at-most-f, status-as-told, shared-by-a-correct-node, stamps-rise, runs-as-told, held-exactly, none-left}
 use Rattle.replay.specs.Replay.{momentOf, Prints, told, prints-reached, block-prints}
 
 -- the run has come about from its beginning by the steps of this history
@@ -39,10 +39,11 @@ one-more-block h run r log last before after ran block =
 
 -- So of every run:
 pub record Promised (h : List Entry) (run : Run) : Type 0 where
-  -- a change is accepted only after an accepted Start,
+  -- a command, and so a change, is accepted only after an accepted Start,
   pub started-first : (t : Dts) (A : ℕ) (T : Dts) → Accepts (momentOf run) (Command t A T) → (b : Beginning) × (lastStart h ≡ some b)
   -- and, counted from the last one, the demand's four parts hold
   pub few : (b : Beginning) → lastStart h ≡ some b → AtMostF h (momentOf run) b
+  pub status : (b : Beginning) → lastStart h ≡ some b → StatusAsTold h (momentOf run) b
   pub shared : (b : Beginning) → lastStart h ≡ some b → SharedByACorrectNode h (momentOf run) b
   pub rising : (b : Beginning) → lastStart h ≡ some b → StampsRise h (momentOf run) b
   pub running : (b : Beginning) → lastStart h ≡ some b → RunsAsTold h (momentOf run) b
@@ -56,6 +57,7 @@ promised h run r =
     record {
       started-first = started-before refl r;
       few = at-most-f (momentOf firstRun) h (momentOf run) r;
+      status = status-as-told (momentOf firstRun) h (momentOf run) r;
       shared = shared-by-a-correct-node (momentOf firstRun) h (momentOf run) r;
       rising = stamps-rise (momentOf firstRun) h (momentOf run) r;
       running = runs-as-told (momentOf firstRun) h (momentOf run) r;

@@ -1,4 +1,4 @@
--- The sixteen rows as tests, one each, and that a step's own tests give the refusal that these give.
+-- The fifteen rows as tests, one each, and that a step's own tests give the refusal that these give.
 use Prim.Native.Nat.{ℕ, _+_, _-_, _≤_, _<_}
 use mathlib.Core.Path.{_≡_, refl, _∙_}
 use mathlib.Core.Bool.{Bool, false, not, _&&_, _||_}
@@ -80,6 +80,11 @@ module _ (site : Site) (lent : ℕ) (node : Node) where
       ofNamed (named step .sender) (λ i. ofNamed (named step .status) λ A. ofNamed (named step .stamp) (canDeliver site i A))
       && (not (isKind (named step .kind) command) || ofNamed (named step .status) λ A. ofNamed (named step .stamp) (verdict site A))
 
+  abbrev testOf11 : Step → Bool
+  testOf11 step =
+      not (isKind (named step .kind) command)
+      || (ofNamed (named step .status) λ A. eqb A (site .breaker .pair .status) || ofNamed (named step .stamp) λ T. ltb (site .breaker .pair .stamp .0) (T .0))
+
   abbrev testOf12 : Step → Bool
   testOf12 step = (not (isKind (named step .kind) shareTimeout) || inAttempt node) && (not (isKind (named step .kind) resendTimeout) || armed node)
 
@@ -95,8 +100,7 @@ module _ (site : Site) (lent : ℕ) (node : Node) where
       ∷ (7, ofNamed (named step .clock) λ t. ofNamed (named step .stamp) λ T. fresh T t)
       ∷ (8, testOf8 step)
       ∷ (9, ofNamed (named step .number) (isNew node))
-      ∷ (10, not (isKind (named step .kind) command) || ofNamed (named step .status) λ A. not (eqb A (site .breaker .pair .status)))
-      ∷ (11, not (isKind (named step .kind) command) || ofNamed (named step .stamp) λ T. ltb (site .breaker .pair .stamp .0) (T .0))
+      ∷ (11, testOf11 step)
       ∷ (12, testOf12 step)
       ∷ (13, ofNamed (named step .back) λ back. leb (back + 1) (site .breaker .changes .count))
       ∷ (14, not (isKind (named step .kind) down) || ltb (size (site .down)) (site .k))
@@ -197,14 +201,15 @@ module _ (site : Site) (lent : ℕ) (node : Node) (step : Step) where
       both (itself (isIn (site .compromised) i)) (itself (held (site .made) A T i)))
       or both (kind-is (the .kind) command) (of-named (the .status) λ A. of-named (the .stamp) λ T. above (site .f + 1) (size (counted site A T))))
       (also 9 (of-named (the .number) λ number. itself (isNew node number))
-      (also 10 (both (kind-is (the .kind) command) (of-named (the .status) λ A. equal A (site .breaker .pair .status)))
-      (also 11 (both (kind-is (the .kind) command) (of-named (the .stamp) λ T. from (site .breaker .pair .stamp .0) (T .0)))
+      (also 11
+      (both (kind-is (the .kind) command) (of-named (the .status) λ A.
+      both (other A (site .breaker .pair .status)) (of-named (the .stamp) λ T. from (site .breaker .pair .stamp .0) (T .0))))
       (also 12
       (both (kind-is (the .kind) shareTimeout) (itself (inAttempt node)) or both (kind-is (the .kind) resendTimeout) (itself (armed node)))
       (also 13 (of-named (the .back) λ back. above (back + 1) (site .breaker .changes .count))
       (also 14 (both (kind-is (the .kind) down) (from (size (site .down)) (site .k)))
       (also 15 (both (kind-is (the .kind) tick) (equal (g site .0) 1_000_000_000))
-      nothing)))))))))))))))
+      nothing))))))))))))))
 
   number : given site lent node step ≡ refusal (rowTests site lent node step)
   number = given-is site lent node step ∙ same site lent node step

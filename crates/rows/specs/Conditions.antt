@@ -87,13 +87,13 @@ module _ (site : Site) (lent : ℕ) (node : Node) (step : Step) where
   abbrev pub ReportNotNew : Type 0
   ReportNotNew = Of (named step .number) λ number. isNew node number ≡ false
 
-  -- 10: "breaker already has that status"
-  abbrev pub StatusAlready : Type 0
-  StatusAlready = (named step .kind ≡ command) × Of (named step .status) λ A. A ≡ site .breaker .pair .status
+  -- 10 is no step's: "10 is not given by Command from then on" (§4 of 02), and 01 gave it to no other.
 
-  -- 11: "T ≤ breaker's stamp"
+  -- 11: "T ≤ breaker's stamp", and "only for a command that would change the status" (§4 of 02)
   abbrev pub StampNotAbove : Type 0
-  StampNotAbove = (named step .kind ≡ command) × Of (named step .stamp) λ T. T .0 ≤ site .breaker .pair .stamp .0
+  StampNotAbove =
+      (named step .kind ≡ command)
+      × Of (named step .status) λ A. (A ≡ site .breaker .pair .status → ⊥) × Of (named step .stamp) λ T. T .0 ≤ site .breaker .pair .stamp .0
 
   -- 12: "timeout not armed"
   abbrev pub NotArmed : Type 0
@@ -153,7 +153,6 @@ module _ (site : Site) (lent : ℕ) (node : Node) (step : Step) where
       ∷ (7, NotFresh)
       ∷ (8, NotVouchedFor)
       ∷ (9, ReportNotNew)
-      ∷ (10, StatusAlready)
       ∷ (11, StampNotAbove)
       ∷ (12, NotArmed)
       ∷ (13, TooFewChanges)

@@ -1,15 +1,20 @@
 -- Document 01's table of refusals, row by row: a step is answered with a row's number exactly when the row's condition is met and that of no row
 -- which is checked earlier. The conditions and the order of the rows are in Conditions.antt.
 use Prim.Native.Nat.{ℕ, _≤_}
-use mathlib.Core.Path.{_≡_}
-use mathlib.Core.Logic.{_↔_}
+use mathlib.Core.Path.{_≡_, refl, sym, ap, _∙_}
+use mathlib.Core.Bool.{false, not, true≢false}
+use mathlib.Core.Logic.{_↔_, inl, inr}
 use lib.Dec.{lit<}
+use Rattle.time.specs.declared.Dts.{Dts}
 use Rattle.steps.specs.declared.Step.{Step}
+use Rattle.steps.specs.declared.Step.the-variants.{Command}
 use Rattle.node.specs.declared.Node.{Node}
 use Rattle.site.specs.declared.Site.{Site}
 use Rattle.rows.specs.Exactly.{NoneBefore, None}
-use Rattle.rows.specs.Conditions.{StartOutOfRange, OutsideItsRange, ActorCompromised, PhaseDoesNotTake, NeitherNowNorNext, BelowLastClock, NotFresh, NotVouchedFor, ReportNotNew, StatusAlready, StampNotAbove, NotArmed, TooFewChanges, EnoughDown, TickAtTheLast, SiteOrRecordOutOfRange, refusalTable}
+use Rattle.rows.specs.Named.{StepKind, tick, shareTimeout, resendTimeout, command, down, isKind}
+use Rattle.rows.specs.Conditions.{StartOutOfRange, OutsideItsRange, ActorCompromised, PhaseDoesNotTake, NeitherNowNorNext, BelowLastClock, NotFresh, NotVouchedFor, ReportNotNew, StampNotAbove, NotArmed, TooFewChanges, EnoughDown, TickAtTheLast, SiteOrRecordOutOfRange, refusalTable}
 use Rattle.rows.specs.Given.{given}
+use Rattle.rows.specs.Telling.{kind-is}
 use Rattle.rows.specs.Cases.{told, told-done, told-at-most}
 
 -- for every site, number of records that are lent, record of the acting node, and step
@@ -62,11 +67,11 @@ module _ (site : Site) (lent : ℕ) (node : Node) (step : Step) where
   pub row-9 : Given 9 ↔ (NoneEarlier 9 × ReportNotNew site lent node step)
   row-9 = told site lent node step 9 (lit< tt)
 
-  -- "breaker already has that status"
-  pub row-10 : Given 10 ↔ (NoneEarlier 10 × StatusAlready site lent node step)
-  row-10 = told site lent node step 10 (lit< tt)
+  -- 10 is never given: "10 is not given by Command from then on" (§4 of 02), and it was no other step's.
+  pub row-10 : Given 10 → ⊥
+  row-10 e = told site lent node step 10 (lit< tt) .0 e .1
 
-  -- "T ≤ breaker's stamp"
+  -- "T ≤ breaker's stamp", and "only for a command that would change the status" (§4 of 02)
   pub row-11 : Given 11 ↔ (NoneEarlier 11 × StampNotAbove site lent node step)
   row-11 = told site lent node step 11 (lit< tt)
 
@@ -93,3 +98,28 @@ module _ (site : Site) (lent : ℕ) (node : Node) (step : Step) where
   -- A step is answered with no other number.
   pub no-other : (number : ℕ) → Given number → number ≤ 16
   no-other number e = rw (← e) (told-at-most site lent node step)
+
+-- "A command for the status the breaker has, fresh and with verdict yes, is now done at any T" (§4 of 02): exactly when it has nothing of 16, 2, 5, 6, 7
+-- and 8 against it.
+module _ (site : Site) (lent : ℕ) (node : Node) (t : Dts) (A : ℕ) (T : Dts) (same : A ≡ site .breaker .pair .status) where
+  pub done-at-any-stamp : Given site lent node (Command t A T) 0
+      ↔ ((SiteOrRecordOutOfRange site lent node (Command t A T) → ⊥)
+      × (OutsideItsRange site lent node (Command t A T) → ⊥)
+      × (NeitherNowNorNext site lent node (Command t A T) → ⊥)
+      × (BelowLastClock site lent node (Command t A T) → ⊥)
+      × (NotFresh site lent node (Command t A T) → ⊥)
+      × (NotVouchedFor site lent node (Command t A T) → ⊥))
+  done-at-any-stamp = (
+    λ done. let no = row-0 site lent node (Command t A T) .0 done in
+        (no .0, no .1 .1 .0, no .1 .1 .1 .1 .1 .0, no .1 .1 .1 .1 .1 .1 .0, no .1 .1 .1 .1 .1 .1 .1 .0, no .1 .1 .1 .1 .1 .1 .1 .1 .0),
+    λ no.
+        row-0 site lent node (Command t A T) .1
+        (no .0, (absurd, (no .1, (absurd, (absurd, (no .2, (no .3, (no .4, (no .5, (absurd, (λ c. c .1 .0 same, (no-timeout, (absurd, (λ c. other down refl (c .0), (λ c. other tick refl (c .0), tt))))))))))))))),
+  )
+    where
+      other : (kind : StepKind) → isKind command kind ≡ false → command ≡ kind → ⊥
+      other kind differs e = true≢false (sym (ap not differs) ∙ kind-is command kind .1 e)
+
+      no-timeout : NotArmed site lent node (Command t A T) → ⊥
+      no-timeout (inl c) = other shareTimeout refl (c .0)
+      no-timeout (inr c) = other resendTimeout refl (c .0)

@@ -19,14 +19,13 @@ use Rattle.node.specs.declared.Phase.the-variants.{Running}
 use Rattle.node.specs.State.{attempts}
 use Rattle.node.specs.Asked.{isRunning}
 use Rattle.steps.specs.declared.Step.{Step}
-use Rattle.steps.specs.declared.Step.the-variants.{Command}
 use Rattle.breaker.specs.Breaker.{changeAt}
 use Rattle.site.specs.declared.Sent.{Sent}
 use Rattle.site.specs.declared.Answer.the-variants.{Done}
 use Rattle.site.specs.Site.{nodes}
-use Rattle.rows.specs.Named.{command, Beginning, named, Of}
-use Rattle.sequences.specs.History.{Entry, Accepted, stepKind, lastStart, accepted, isAt, atNode, lastReport, clock, runs, deliveries, freshAtClock}
-use Rattle.sequences.specs.Moments.{Moment, Reached, Accepts, answerTo, afterStep, nodeAt, holds}
+use Rattle.rows.specs.Named.{Beginning, named, Of}
+use Rattle.sequences.specs.History.{Entry, Accepted, Change, lastStart, accepted, breakerStatus, changesIn, isAt, atNode, lastReport, clock, runs, deliveries, freshAtClock}
+use Rattle.sequences.specs.Moments.{Moment, Reached, answerTo, afterStep, nodeAt, holds}
 
 -- a correct node of the last Start's
 abbrev pub Correct : Beginning → ℕ → Type 0
@@ -37,10 +36,10 @@ pub data Earlier (P : Accepted → List Accepted → Type 0) : List Accepted →
   here : {a : Accepted} {before : List Accepted} → P a before → Earlier P (a ∷ before)
   further : {a : Accepted} {before : List Accepted} → Earlier P before → Earlier P (a ∷ before)
 
--- each of them is as P says
-abbrev pub Each : (Accepted → Type 0) → List Accepted → Type 0
+-- each of a list is as P says
+abbrev pub Each : {A : Type 0} → (A → Type 0) → List A → Type 0
 Each P [] = Unit {0}
-Each P (a ∷ before) = P a × Each P before
+Each P (a ∷ rest) = P a × Each P rest
 
 -- In this step node i shared (A, T), "whose own clock then read T or T−1 and whose relay's last accepted report was that action".
 pub record Shared (i A : ℕ) (T : Dts) (a : Accepted) (before : List Accepted) : Type 0 where
@@ -49,15 +48,32 @@ pub record Shared (i A : ℕ) (T : Dts) (a : Accepted) (before : List Accepted) 
   pub at-clock : Of (named (a .step) .clock) λ t. (t .0 ≡ T .0) ⊎ (t .0 + 1 ≡ T .0)
   pub reported : lastReport (atNode i (a ∷ before)) ≡ some A
 
--- where the step is a change, its stamp T, and the stamp that the breaker acknowledges, are as P says
-abbrev pub Changed : (Dts → Type 0) → Accepted → Type 0
-Changed P a = stepKind a ≡ command → Of (named (a .step) .stamp) P × ((p : Pair) → a .sent .ack ≡ Yes p → P (p .stamp))
+-- a change was shared, earlier than it was accepted, by a correct node
+abbrev pub SharedEarlier : Beginning → Change → Type 0
+SharedEarlier b c = (i : ℕ) × Correct b i × Earlier (Shared i (c .action) (c .stamp)) (c .before)
+
+-- a change's stamp T, and the stamp that the breaker acknowledged, are as P says
+abbrev pub BothStamps : (Dts → Type 0) → Change → Type 0
+BothStamps P c = P (c .stamp) × ((p : Pair) → c .acked ≡ Yes p → P (p .stamp))
+
+-- each change's stamp T is above those of all changes before it, the latest coming first
+abbrev pub Rising : List Change → Type 0
+Rising [] = Unit {0}
+Rising (c ∷ before) = Each (BothStamps λ U. U .0 < c .stamp .0) before × Rising before
 
 -- for a history h, the moment m to which it leads, and what its last accepted Start gave
 module _ (h : List Entry) (m : Moment) (b : Beginning) where
   -- the accepted steps at node j
   abbrev pub at : ℕ → List Accepted
   at j = atNode j (accepted h)
+
+  -- the accepted changes
+  abbrev pub changes : List Change
+  changes = changesIn (b .status) (accepted h)
+
+  -- they are told by the status that the breaker had: the site's is the one that Start and the accepted commands say
+  abbrev pub StatusAsTold : Type 0
+  StatusAsTold = m .site .breaker .pair .status ≡ breakerStatus (b .status) (accepted h)
 
   -- "a fixed set of at most f compromised nodes": the last Start's
   abbrev pub AtMostF : Type 0
@@ -66,11 +82,11 @@ module _ (h : List Entry) (m : Moment) (b : Beginning) where
   -- 1. "Each accepted change to an action at stamp T was shared earlier by a correct node whose own clock then read T or T−1 and whose relay's last
   -- accepted report was that action"
   abbrev pub SharedByACorrectNode : Type 0
-  SharedByACorrectNode = (t : Dts) (A : ℕ) (T : Dts) → Accepts m (Command t A T) → (i : ℕ) × Correct b i × Earlier (Shared i A T) (accepted h)
+  SharedByACorrectNode = Each (SharedEarlier b) changes
 
   -- 2. "accepted stamps strictly rise"
   abbrev pub StampsRise : Type 0
-  StampsRise = (t : Dts) (A : ℕ) (T : Dts) → Accepts m (Command t A T) → Each (Changed λ U. U .0 < T .0) (accepted h)
+  StampsRise = Rising changes
 
   -- 3. "What a running correct node holds from a sender follows from that sender's fresh shares delivered since the holder began running and the
   -- holder's clock, whatever the others send". A correct node runs when its history says so,

@@ -2,17 +2,18 @@
 use Prim.Native.Nat.{ℕ}
 use mathlib.Core.Bool.{Bool, false, _&&_, _||_, cond}
 use mathlib.Core.List.{List, [], _∷_, _++_}
-use mathlib.Core.Option.{Option, none, some}
+use mathlib.Core.Option.{Option, none, some, Option·getD}
 use lib.Dec.{eqb}
 use Rattle.time.specs.declared.Dts.{Dts}
 use Rattle.time.specs.Fresh.{fresh}
 use Rattle.pairs.specs.declared.Pair.{Pair}
+use Rattle.pairs.specs.declared.Known.{Known}
 use Rattle.pairs.specs.Pair.{pair, listed}
 use Rattle.steps.specs.declared.Step.{Step}
 use Rattle.site.specs.declared.Sent.{Sent}
 use Rattle.site.specs.declared.Answer.{Answer}
 use Rattle.site.specs.declared.Answer.the-variants.{Done, Refused}
-use Rattle.rows.specs.Named.{StepKind, report, ack, query, down, up, Beginning, named, isKind, among}
+use Rattle.rows.specs.Named.{StepKind, report, command, ack, query, down, up, Beginning, named, isKind, among}
 
 -- a step with its answer
 pub record Entry : Type 0 where
@@ -51,6 +52,39 @@ tellTo (Refused number) step before = before
 abbrev pub accepted : List Entry → List Accepted
 accepted [] = []
 accepted (e ∷ h) = tellTo (e .answer) (e .step) (accepted h)
+
+-- ---- at the breaker
+
+-- the status that an accepted command leaves the breaker with
+abbrev pub statusBy : Accepted → ℕ → ℕ
+statusBy a had = Option·getD (named (a .step) .status) had
+
+-- its status: the one that Start gave, and then that of the latest accepted command
+abbrev pub breakerStatus : ℕ → List Accepted → ℕ
+breakerStatus first [] = first
+breakerStatus first (a ∷ before) = cond (isKind (stepKind a) command) (statusBy a (breakerStatus first before)) (breakerStatus first before)
+
+-- an accepted change: its action, its stamp T, the ack that was sent, and the accepted steps before it
+pub record Change : Type 0 where
+  pub action : ℕ
+  pub stamp : Dts
+  pub acked : Known
+  pub before : List Accepted
+
+-- a command of A at T is a change where A is not the status that the breaker had. One for the status that it had "is not an accepted change in demand 3"
+-- (§4 of 02).
+abbrev changeTo : Option ℕ → Option Dts → ℕ → Known → List Accepted → List Change
+changeTo (some A) (some T) had acked before = cond (eqb A had) [] (record { action = A; stamp = T; acked = acked; before = before } ∷ [])
+changeTo (some A) none had acked before = []
+changeTo none T had acked before = []
+
+abbrev pub changeBy : Accepted → ℕ → List Accepted → List Change
+changeBy a had before = changeTo (named (a .step) .status) (named (a .step) .stamp) had (a .sent .ack) before
+
+-- the accepted changes
+abbrev pub changesIn : ℕ → List Accepted → List Change
+changesIn first [] = []
+changesIn first (a ∷ before) = cond (isKind (stepKind a) command) (changeBy a (breakerStatus first before) before) [] ++ changesIn first before
 
 -- ---- at one node
 

@@ -9,9 +9,10 @@ pub mod Sharing
 pub mod Passing
 pub mod Keeps
 pub mod Reaching
-pub mod Rising
+pub mod Changing
 pub mod Sending
 pub mod Reporting
 pub mod Relay
+pub mod Repeating
 pub mod Started
 pub mod Proved

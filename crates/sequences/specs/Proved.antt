@@ -6,10 +6,8 @@ use mathlib.Core.List.{List, [], _∷_}
 use mathlib.Core.Option.{Option}
 use native.Mathlib.Omega.{arith}
 use lib.Dec.{leb, ltb}
-use lib.ListN.{length}
 use borrow.Author.Tests.{ltb-true, ltb-false, lt-leb}
 use Rattle.refusals.specs.Bools.{and-false}
-use Rattle.refusals.specs.Tests.{done-passed, each-passed}
 use Rattle.time.specs.declared.Dts.{Dts}
 use Rattle.time.specs.Fresh.{fresh, window}
 use Rattle.senders.specs.Sets.{countBelow, count-more, count-none}
@@ -26,43 +24,30 @@ use Rattle.node.specs.declared.Phase.{Phase}
 use Rattle.node.specs.declared.Phase.the-variants.{Starting, Running, Down as NotUp}
 use Rattle.node.specs.State.{attempts}
 use Rattle.node.specs.Asked.{isRunning}
-use Rattle.steps.specs.declared.Step.the-variants.{Command}
 use Rattle.site.specs.Site.{nodes}
-use Rattle.refusing.specs.Tests.{commandTests, testsOf}
-use Rattle.refusing.specs.CommandLaws.{shared-by-one, stamp-above}
 use Rattle.rows.specs.Named.{report, ack, query}
 use Rattle.sequences.specs.History.{Accepted, accepted, atNode, clock, life, oneOf, runs, deliveries, freshAtClock}
 use Rattle.sequences.specs.Moments.{nodeAt, holds}
-use Rattle.sequences.specs.Demand.{Always, AtMostF, SharedByACorrectNode, StampsRise, RunsAsTold, HeldExactly, NoneLeft, OneSendersOwn}
+use Rattle.sequences.specs.Demand.{Always, AtMostF, StatusAsTold, SharedByACorrectNode, StampsRise, RunsAsTold, HeldExactly, NoneLeft, OneSendersOwn}
 use Rattle.sequences.specs.Fitting.{Fits, StartingFits, RunningFits}
-use Rattle.sequences.specs.Passing.{sound}
-use Rattle.sequences.specs.Started.{accepted-passed}
 use Rattle.sequences.specs.Reaching.{reached-keeps}
-use Rattle.sequences.specs.Rising.{each-so, reached-risen}
+use Rattle.sequences.specs.Changing.{reached-changing}
 
 pub at-most-f : Always AtMostF
 at-most-f first h m r b q = reached-keeps r b q .few-compromised
 
 -- ---- 1
 
+pub status-as-told : Always StatusAsTold
+status-as-told first h m r b q = reached-changing r b q .status
+
 pub shared-by-a-correct-node : Always SharedByACorrectNode
-unfolding testsOf
-shared-by-a-correct-node first h m r b q t A T taken =
-    let ok = done-passed (commandTests (m .site) (length (m .records)) t A T) refl (accepted-passed m (Command t A T) taken) in
-    let keeps = reached-keeps r b q in
-    let whole = sound (m .site) (length (m .records)) (each-passed 0 _ ok) in
-    let found = shared-by-one (m .site) A T (whole .few) (each-passed 5 _ ok) in
-    let made = keeps .made (found .0) A T (found .2) in
-    (found .0, made .0, made .1)
+shared-by-a-correct-node first h m r b q = reached-changing r b q .shared
 
 -- ---- 2
 
 pub stamps-rise : Always StampsRise
-unfolding testsOf
-stamps-rise first h m r b q t A T taken =
-    let ok = done-passed (commandTests (m .site) (length (m .records)) t A T) refl (accepted-passed m (Command t A T) taken) in
-    let higher = stamp-above (m .site) (length (m .records)) t A T ok in
-    each-so (λ U. U .0 ≤ m .site .breaker .pair .stamp .0) (λ U. U .0 < T .0) (λ U old. omega (arith, higher, old)) (accepted h) (reached-risen r)
+stamps-rise first h m r b q = reached-changing r b q .rising
 
 -- ---- 3
 

@@ -163,14 +163,15 @@ module _ (h : List Entry) (site : Site) (records : List Node) (before : (b : Beg
 
 -- ---- every sequence
 
+-- where nothing has happened there was no Start
+pub no-start : {b : Beginning} → none ≡ some b → ⊥
+no-start q = false≢true (ap there q)
+  where
+    there : Option Beginning → Bool
+    there none = false
+    there (some b) = true
+
 pub reached-keeps : {first : Moment} {h : List Entry} {m : Moment} → Reached first h m → (b : Beginning) → lastStart h ≡ some b → Keeps b (accepted h) (m .site) (m .records)
 unfolding tableAfter
-reached-keeps from = λ b q. absurd (never q)
-  where
-    never : {b : Beginning} → none ≡ some b → ⊥
-    never q = false≢true (ap there q)
-      where
-        there : Option Beginning → Bool
-        there none = false
-        there (some b) = true
+reached-keeps from = λ b q. absurd (no-start q)
 reached-keeps (then {h} {m} r step) = kept h (m .site) (m .records) (reached-keeps r) step

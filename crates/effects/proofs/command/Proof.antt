@@ -4,12 +4,12 @@ use Rattle.effects.proofs.command.Statement.{statement}
 use Rattle.effects.proofs.command.Tie as tie
 use Rattle.effects.proofs.command.Reads as reads
 use Rattle.effects.proofs.command.Lts as lts
-use Rattle.breaker.proofs.change.Reads as change-reads
+use Rattle.breaker.proofs.command.Reads as command-reads
 use Rattle.effects.proofs.done.Reads as done-reads
 use Rattle.effects.proofs.with_breaker.Reads as with-breaker-reads
 
-change-requires : tie.Need-change-requires
-change-requires c κs = search needs
+command-requires : tie.Need-command-requires
+command-requires c κs = search needs
 
 with-breaker-requires : tie.Need-with-breaker-requires
 with-breaker-requires c κs = search needs
@@ -19,7 +19,7 @@ done-requires c κs = search needs
 
 returns : tie.Need-returns
 unfolding commanded
-returns c = simp (c .done .ensures, c .before .with-breaker .ensures, c .before .before .before .change .ensures)
+returns c = simp (c .done .ensures, c .before .with-breaker .ensures, c .before .before .before .command .ensures)
 
 pub command-spec : {M : Type 1} → statement M
-command-spec = tie.close (tie.spec change-requires with-breaker-requires done-requires returns)
+command-spec = tie.close (tie.spec command-requires with-breaker-requires done-requires returns)

@@ -24,20 +24,14 @@ test-requires-2 c κs = search needs
 test-requires-3 : tie.Need-test-requires-3
 test-requires-3 c κs = search needs
 
-test-requires-4 : tie.Need-test-requires-4
-test-requires-4 c κs = search needs
-
 first-requires : tie.Need-first-requires
 first-requires c κs = search needs
 
 first-requires-2 : tie.Need-first-requires-2
 first-requires-2 c κs = search needs
 
-first-requires-3 : tie.Need-first-requires-3
-first-requires-3 c κs = search needs
-
 returns : tie.Need-returns
-returns c = simp (appended, c .first3 .ensures, c .before .first2 .ensures, c .before .before .first .ensures, c .before .before .before .test4 .ensures, c .before .before .before .before .before .before .test3 .ensures, c .before .before .before .before .before .before .before .before .test2 .ensures, c .before .before .before .before .before .before .before .before .before .test .ensures, c .before .before .before .before .before .before .before .before .before .before .is-verdict-yes .ensures, c .before .before .before .before .before .before .before .before .before .before .before .is-fresh .ensures)
+returns c = simp (appended, c .first2 .ensures, c .before .first .ensures, c .before .before .test3 .ensures, c .before .before .before .before .before .before .test2 .ensures, c .before .before .before .before .before .before .before .test .ensures, c .before .before .before .before .before .before .before .before .is-verdict-yes .ensures, c .before .before .before .before .before .before .before .before .before .is-fresh .ensures)
 
 pub command-last-spec : {M : Type 1} → statement M
 command-last-spec =
@@ -48,8 +42,6 @@ command-last-spec =
     test-requires
     test-requires-2
     test-requires-3
-    test-requires-4
     first-requires
     first-requires-2
-    first-requires-3
     returns)
