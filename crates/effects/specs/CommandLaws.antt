@@ -4,6 +4,8 @@ use mathlib.Core.Path.{_≡_, ap}
 use mathlib.Core.Bool.{true, false}
 use Rattle.time.specs.declared.Dts.{Dts}
 use Rattle.time.specs.Larger.{larger}
+use Rattle.pairs.specs.declared.Known.the-variants.{Yes}
+use Rattle.pairs.specs.declared.Pairs.the-variants.{Zero}
 use Rattle.pairs.specs.Pair.{pair}
 use Rattle.node.specs.declared.Node.{Node}
 use Rattle.breaker.specs.declared.Breaker.{Breaker}
@@ -22,14 +24,15 @@ module _ (site : Site) (node : Node) (t : Dts) (A : ℕ) (T : Dts) where
   -- moves, to t, and the record stays.
   pub repeat-done : repeats (site .breaker) A ≡ true
       → commanded site node t A T
-      ≡ done (onlyAck (site .breaker .pair)) (withBreaker site (record { pair = site .breaker .pair; clock = t; changes = site .breaker .changes })) node
+      ≡ done (record { shares = Zero; commands = Zero; ack = Yes (site .breaker .pair) })
+      (withBreaker site (record { pair = site .breaker .pair; clock = t; changes = site .breaker .changes })) node
   unfolding commanded
   repeat-done e = ap afterwards (repeat-keeps (site .breaker) t A T e)
 
   -- Any other sends the ack of its own pair, with the larger of T and t; that pair is the breaker's, and stands in front of the other changes.
   pub change-done : repeats (site .breaker) A ≡ false
       → commanded site node t A T
-      ≡ done (onlyAck (pair A (larger T t)))
+      ≡ done (record { shares = Zero; commands = Zero; ack = Yes (pair A (larger T t)) })
       (withBreaker site (record { pair = pair A (larger T t); clock = t; changes = remembered (site .breaker .changes) (pair A (larger T t)) })) node
   unfolding commanded
   change-done e = ap afterwards (change-moves (site .breaker) t A T e)
