@@ -1,7 +1,7 @@
 //! The five operating conditions of the paper's performance table, with four nodes (f = 1, k = 1), as logs
 //! of any number of trip and close actions. Every action is carried out: relays report, each node that is up
 //! sends both of its shares to every other, each sends the command, the first changes the breaker and the others
-//! are answered as it is, all get the ack.
+//! are answered, all get the ack.
 
 use reference::log;
 use reference::model::{Status, Step};

@@ -30,7 +30,7 @@ use Rattle.lent.specs.Lent.{recordOf, outOf}
 use Rattle.steps.specs.Actor.{actor}
 use Rattle.stepping.specs.StepLaws.{by-tests}
 use Rattle.rows.specs.Named.{Beginning, command, isKind}
-use Rattle.sequences.specs.History.{Entry, Accepted, Change, stepKind, lastStart, accepted, statusBy, breakerStatus, changeBy, changesIn}
+use Rattle.sequences.specs.History.{Entry, Accepted, Change, stepKind, lastStart, accepted, statusBy, breakerStatus, unlessHad, changeBy, changesIn}
 use Rattle.sequences.specs.Moments.{Moment, Reached, from, then}
 use Rattle.sequences.specs.Demand.{Correct, Earlier, Shared, Each, SharedEarlier, BothStamps, Rising}
 use Rattle.sequences.specs.Fitting.{doneWith}
@@ -80,23 +80,13 @@ module _ (b : Beginning) (steps : List Accepted) (site : Site) (before : Changin
       (ap (λ (is : Bool). cond is (changeBy a (breakerStatus (b .status) steps) steps) [] ++ changesIn (b .status) steps) other)
 
   module _ (t : Dts) (A : ℕ) (T : Dts) where
-    -- a command for the status that the breaker has
-    pub repeated : (next : Site) (sent : Pair) → repeats (site .breaker) A ≡ true → next .breaker .pair ≡ site .breaker .pair
-        → Changing b (doneWith (Command t A T) (onlyAck sent) ∷ steps) next
-    repeated next sent e same =
-        let is : A ≡ site .breaker .pair .status = eqb-true _ _ e in
-        unmoved (doneWith (Command t A T) (onlyAck sent)) next same (is ∙ before .status)
-        (ap
-        (λ (x : Bool). cond x [] (record { action = A; stamp = T; acked = Yes sent; before = steps } ∷ []) ++ changesIn (b .status) steps)
-        (ap (λ (had : ℕ). eqb A had) (sym (before .status)) ∙ e))
-
-    -- a command for the other: it is a change
+    -- a command for the status that the breaker has not: it is a change
     pub changed : (next : Site) → repeats (site .breaker) A ≡ false → next .breaker .pair ≡ pair A (larger T t) → site .breaker .pair .stamp .0 < T .0
         → (i : ℕ) × Correct b i × Earlier (Shared i A T) steps → Changing b (doneWith (Command t A T) (onlyAck (pair A (larger T t))) ∷ steps) next
     changed next e same higher found =
         let least : T .0 ≤ larger T t .0 = larger-least T t in
         let list : c ∷ changesIn (b .status) steps ≡ changesIn (b .status) (a ∷ steps) =
-        sym (ap (λ (x : Bool). cond x [] (c ∷ []) ++ changesIn (b .status) steps) (ap (λ (had : ℕ). eqb A had) (sym (before .status)) ∙ e)) in
+        sym (ap (λ (had : Bool). unlessHad had c ++ changesIn (b .status) steps) (ap (λ (had : ℕ). eqb A had) (sym (before .status)) ∙ e)) in
         record {
           status = ap (λ (p : Pair). p .status) same;
           shared = subst (Each (SharedEarlier b)) list (found, before .shared);
@@ -120,6 +110,16 @@ module _ (b : Beginning) (steps : List Accepted) (site : Site) (before : Changin
 
         still : site .breaker .pair .stamp .0 < T .0 → T .0 ≤ larger T t .0 → (d : Change) → NotAbove (site .breaker .pair .stamp) d → NotAbove (larger T t) d
         still higher least d old = (let x = old .0 in omega (arith, higher, least, x), λ p is. let x = old .1 p is in omega (arith, higher, least, x))
+
+    -- one for the status that it has
+    pub repeated : (next : Site) (sent : Pair) → repeats (site .breaker) A ≡ true → next .breaker .pair ≡ site .breaker .pair
+        → Changing b (doneWith (Command t A T) (onlyAck sent) ∷ steps) next
+    repeated next sent e same =
+        let is : A ≡ site .breaker .pair .status = eqb-true _ _ e in
+        unmoved (doneWith (Command t A T) (onlyAck sent)) next same (is ∙ before .status)
+        (ap
+        (λ (had : Bool). unlessHad had (record { action = A; stamp = T; acked = Yes sent; before = steps }) ++ changesIn (b .status) steps)
+        (ap (λ (had : ℕ). eqb A had) (sym (before .status)) ∙ e))
 
 -- ---- one step
 

@@ -71,12 +71,14 @@ pub record Change : Type 0 where
   pub acked : Known
   pub before : List Accepted
 
--- a command of A at T is a change where A is not the status that the breaker had. One for the status that it had "is not an accepted change in demand 3"
--- (§4 of 02).
+-- A command is a change unless its status is the one that the breaker had: it then "is not an accepted change in demand 3" (§4 of 02).
+abbrev pub unlessHad : Bool → Change → List Change
+unlessHad had c = cond had [] (c ∷ [])
+
 abbrev changeTo : Option ℕ → Option Dts → ℕ → Known → List Accepted → List Change
-changeTo (some A) (some T) had acked before = cond (eqb A had) [] (record { action = A; stamp = T; acked = acked; before = before } ∷ [])
-changeTo (some A) none had acked before = []
-changeTo none T had acked before = []
+changeTo (some A) (some T) status acked before = unlessHad (eqb A status) (record { action = A; stamp = T; acked = acked; before = before })
+changeTo (some A) none status acked before = []
+changeTo none T status acked before = []
 
 abbrev pub changeBy : Accepted → ℕ → List Accepted → List Change
 changeBy a had before = changeTo (named (a .step) .status) (named (a .step) .stamp) had (a .sent .ack) before

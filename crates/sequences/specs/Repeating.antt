@@ -2,8 +2,8 @@
 -- nothing but the breaker's clock" (§4 of 02).
 use Prim.Native.Nat.{ℕ}
 use mathlib.Core.Path.{_≡_, refl, sym, ap, subst, _∙_}
-use mathlib.Core.Bool.{Bool, true, cond, false≢true}
-use mathlib.Core.List.{[], _∷_, _++_}
+use mathlib.Core.Bool.{Bool, true, false≢true}
+use mathlib.Core.List.{_∷_, _++_}
 use lib.Dec.{eqb}
 use lib.ListN.{length}
 use borrow.Author.Tests.{eq-eqb}
@@ -20,7 +20,7 @@ use Rattle.effects.specs.CommandLaws.{repeat-done}
 use Rattle.lent.specs.Lent.{recordOf, outOf, tableAfter, tableAfterAnswer}
 use Rattle.steps.specs.Actor.{actor}
 use Rattle.stepping.specs.StepLaws.{by-tests}
-use Rattle.sequences.specs.History.{Change, accepted, changesIn}
+use Rattle.sequences.specs.History.{Change, accepted, unlessHad, changesIn}
 use Rattle.sequences.specs.Moments.{Moment, Accepts, answerTo, afterStep, entry}
 use Rattle.sequences.specs.Demand.{Always}
 use Rattle.sequences.specs.Changing.{reached-changing}
@@ -75,7 +75,7 @@ repeat-answered m t A T same =
 pub repeat-no-change : RepeatNoChange
 repeat-no-change first h m r b q t A T same done =
     ap (λ (answer : Answer). changesIn (b .status) (accepted (record { step = Command t A T; answer = answer } ∷ h))) (repeat-answered m t A T same done .0)
-    ∙ ap (λ (x : Bool). cond x [] (change ∷ []) ++ changesIn (b .status) (accepted h))
+    ∙ ap (λ (had : Bool). unlessHad had change ++ changesIn (b .status) (accepted h))
     (ap (λ (had : ℕ). eqb A had) (sym (reached-changing r b q .status)) ∙ eq-eqb _ _ same)
   where
     change : Change
