@@ -1,4 +1,4 @@
--- "Both sides of each edge": P1 to P10, by a single statement over one list.
+-- "Both sides of each edge": P1 to P10, and beside P1 the edge of the default interval, by a single statement over one list.
 use Prim.Native.Nat.{ℕ}
 use mathlib.Core.Path.{_≡_, refl}
 use mathlib.Core.Bool.{Bool, true, false, not, _&&_}
@@ -41,9 +41,10 @@ at n = record { 0 = n }
 abbrev micros : ℕ → Micros
 micros n = record { 0 = n }
 
--- the stamp that a reading is discretised to where no interval is named
-abbrev stamp : ℕ → ℕ
-stamp reading = discretised (micros reading) defaultInterval .stamp .0
+-- a reading, discretised at an interval, is accepted and gives that stamp
+abbrev gives : ℕ → Micros → ℕ → Bool
+gives reading interval stamp =
+    eqb (discretised (micros reading) interval .refusal) 0 && eqb (discretised (micros reading) interval .stamp .0) stamp
 
 abbrev isAttempt : ℕ → State → Bool
 isAttempt A (Done B) = false
@@ -74,8 +75,10 @@ Edge = ℕ × Bool
 
 unfoldable pub edges : List Edge
 edges =
-    -- 3,999 µs gives 1, 4,000 gives 2
-    (1, eqb (stamp 3_999) 1 && eqb (stamp 4_000) 2)
+    -- 3,999 µs gives 1, 4,000 gives 2; §5 of 02: at an interval of 2,000, by name
+    (1, gives 3_999 (micros 2_000) 1 && gives 4_000 (micros 2_000) 2)
+    -- §5 of 02, by default: 999 µs gives 0, 1,000 gives 1
+    ∷ (1, gives 999 defaultInterval 0 && gives 1_000 defaultInterval 1)
     -- r (TRIP, 100), b (CLOSE, 100): Attempt TRIP
     ∷ (2, isAttempt TRIP (state (pair TRIP (at 100)) (pair CLOSE (at 100))))
     -- r (TRIP, 99): Wait CLOSE

@@ -7,15 +7,16 @@ use Rattle.refusals.specs.Tests.{Test, refusal, passed}
 use Rattle.time.specs.declared.Micros.{Micros}
 use Rattle.time.specs.declared.Discretised.{Discretised}
 
--- "The interval is 1,000 to 10,000, by default 2,000"
+-- "The interval is 1,000 to 10,000"
 abbrev pub shortestInterval : ℕ
 shortestInterval = 1_000
 
 abbrev pub longestInterval : ℕ
 longestInterval = 10_000
 
+-- §5 of 02: "The default interval becomes 1,000."
 abbrev pub defaultInterval : Micros
-defaultInterval = record { 0 = 2_000 }
+defaultInterval = record { 0 = 1_000 }
 
 abbrev pub lastStamp : ℕ
 lastStamp = 1_000_000_000

@@ -1,4 +1,5 @@
 -- Time: discretising, freshness, the larger of two stamps, and the order of a relay's state numbers.
+pub mod ByDefault
 pub mod Discretising
 pub mod Fresh
 pub mod Larger

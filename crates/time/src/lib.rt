@@ -15,7 +15,7 @@ pub const SHORTEST_INTERVAL: u64 = 1000;
 
 pub const LONGEST_INTERVAL: u64 = 10000;
 
-pub const DEFAULT_INTERVAL: u64 = 2000;
+pub const DEFAULT_INTERVAL: u64 = 1000;
 
 // How far a fresh stamp is from the clock at most.
 pub const WINDOW: u64 = 2;
