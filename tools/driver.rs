@@ -1,18 +1,20 @@
 //! Holds a program against the reference: `driver COMMAND LOGS RUN..`
 //!
 //! Every named run, a short log of each condition, logs cut at every one of their bytes, long logs that come in
-//! pieces of odd sizes, and LOGS random logs, the seeds 1 to LOGS. The first difference ends it with 1.
+//! pieces of odd sizes, and LOGS random logs, the seeds 1 to LOGS. Of the named runs every difference is listed
+//! before it ends with 1; of the other logs the first ends it.
 
 mod tally;
 
 use reference::{log, replay::replay};
+use std::collections::{BTreeMap, BTreeSet};
 use std::io::{Read, Write};
 use std::process::{exit, Command, Stdio};
 use std::sync::Mutex;
 use tally::Tally;
 use tools::conditions::{Bench, Condition, ALL};
 use tools::generator::{random_log, Walk, USUAL};
-use tools::notation;
+use tools::notation::{differences, parse, Difference};
 
 /// Random logs that are run one behind the other in one process: at most so many.
 const BATCH: usize = 25;
@@ -86,36 +88,76 @@ fn output(program: &str, bytes: &[u8], piece: usize) -> Result<String, String> {
     String::from_utf8(printed).map_err(|_| format!("{program} printed what is no text"))
 }
 
-/// Compares byte for byte; a difference names the log and the first line that differs, and the log is kept.
-fn compare(program: &str, name: &str, bytes: &[u8], piece: usize) -> Result<String, String> {
-    let expected = expected(bytes);
-    let printed = output(program, bytes, piece)?;
-    if expected == printed {
-        return Ok(expected);
-    }
-    let kept = "target/tools/differs.log";
-    std::fs::write(kept, bytes).map_err(|error| format!("{kept}: {error}"))?;
+/// The first line in which the program differs from the reference.
+fn first_difference(expected: &str, printed: &str) -> Option<String> {
     let (mut ours, mut theirs) = (expected.split_inclusive('\n'), printed.split_inclusive('\n'));
     loop {
         let (our, their) = (ours.next(), theirs.next());
         if our != their {
             let shown = |line: Option<&str>| line.map_or("(nothing)".to_string(), |line| format!("{line:?}"));
-            let (our, their) = (shown(our), shown(their));
-            return Err(format!("{name}: the reference prints {our}, the program {their}; the log is kept in {kept}"));
+            return Some(format!("the reference prints {}, the program {}", shown(our), shown(their)));
         }
+        our?;
     }
 }
 
+/// Compares byte for byte; a difference names the log and the first line that differs, and the log is kept.
+fn compare(program: &str, name: &str, bytes: &[u8], piece: usize) -> Result<String, String> {
+    let expected = expected(bytes);
+    let printed = output(program, bytes, piece)?;
+    let Some(difference) = first_difference(&expected, &printed) else { return Ok(expected) };
+    let kept = "target/tools/differs.log";
+    std::fs::write(kept, bytes).map_err(|error| format!("{kept}: {error}"))?;
+    Err(format!("{name}: {difference}; the log is kept in {kept}"))
+}
+
+/// Every difference between the lines of a run, the reference and the program.
+fn named_run(program: &str, file: &str) -> Result<Vec<Difference>, String> {
+    let whole = |text| Difference { line_in_file: None, text: format!("{file}: {text}") };
+    let text = std::fs::read_to_string(file).map_err(|error| error.to_string());
+    let run = match text.and_then(|text| parse(&text)) {
+        Ok(run) => run,
+        Err(problem) => return Ok(vec![whole(problem)]),
+    };
+    let (expected, printed) = (expected(&run.bytes), output(program, &run.bytes, usize::MAX)?);
+    let (by_reference, by_program) = (differences(file, &run, &expected), differences(file, &run, &printed));
+    let mut found = Vec::new();
+    for (who, these, others) in [("reference", &by_reference, &by_program), ("program", &by_program, &by_reference)] {
+        for Difference { line_in_file, text } in these.iter().filter(|one| !others.contains(one)) {
+            found.push(Difference { line_in_file: *line_in_file, text: format!("the {who}: {text}") });
+        }
+    }
+    found.extend(by_program.into_iter().filter(|one| by_reference.contains(one)));
+    if found.is_empty() {
+        // Where a step has left its line out, the two still have to agree.
+        found.extend(first_difference(&expected, &printed).map(whole));
+    }
+    found.sort_by_key(|one| one.line_in_file.unwrap_or(usize::MAX));
+    Ok(found)
+}
+
 fn named_runs(program: &str, files: &[String]) -> Result<(), String> {
+    let found = Mutex::new(BTreeMap::new());
     each(files.iter(), |file| {
-        let text = std::fs::read_to_string(file).map_err(|error| format!("{file}: {error}"))?;
-        let run = notation::parse(&text).map_err(|problem| format!("{file}: {problem}"))?;
-        notation::check(file, &run, &expected(&run.bytes)).map_err(|problem| format!("the reference: {problem}"))?;
-        notation::check(file, &run, &output(program, &run.bytes, usize::MAX)?)?;
-        compare(program, file, &run.bytes, usize::MAX).map(|_| ())
+        let differences = named_run(program, file)?;
+        if !differences.is_empty() {
+            found.lock().unwrap().insert(file, differences);
+        }
+        Ok(())
     })?;
-    println!("{} named runs", files.len());
-    Ok(())
+    let found = found.into_inner().unwrap();
+    if found.is_empty() {
+        println!("{} named runs", files.len());
+        return Ok(());
+    }
+    let mut lines = BTreeSet::new();
+    for (file, differences) in &found {
+        for difference in differences {
+            println!("{}", difference.text);
+            lines.extend(difference.line_in_file.map(|line| (file, line)));
+        }
+    }
+    Err(format!("runs that differ: {} of {}; lines that differ: {}", found.len(), files.len(), lines.len()))
 }
 
 fn condition(condition: Condition, actions: u64) -> Vec<u8> {

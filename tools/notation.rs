@@ -8,6 +8,11 @@
 //! The version byte 1 stands at the front of the log, unless the first line says `version N` or
 //! `version none`. A status is CLOSE, TRIP or a number. A line with 17 is the last that a run prints; what
 //! stands behind it is still part of the log. A step may leave its line out, and then it is not compared.
+//!
+//! A line of four words has left its step number out, and begins with the refusal: the number is counted, so
+//! that a step can be put in between without numbering the others anew.
+//!
+//!     Tick x 3                        | 0 C 100 -
 
 use reference::log;
 use reference::model::Step;
@@ -23,9 +28,20 @@ pub struct Run {
 
 pub struct Expected {
     pub number: usize,
+    /// The whole line, with its number also where the file leaves it out.
     pub text: String,
+    /// Whether the file has the number.
+    pub numbered: bool,
     /// Counted from 1.
     pub line_in_file: usize,
+}
+
+/// A place where a program does not print what a run says.
+#[derive(PartialEq)]
+pub struct Difference {
+    /// The line of the file, counted from 1; none where it is about the run as a whole.
+    pub line_in_file: Option<usize>,
+    pub text: String,
 }
 
 /// The part of a line before any comment, cut at the bar.
@@ -78,7 +94,9 @@ pub fn parse(text: &str) -> Result<Run, String> {
         run.steps += prints;
         run.numbers.push((prints > 0).then_some(run.steps));
         if let Some(text) = right {
-            run.expected.push(Expected { number: run.steps, text: text.to_string(), line_in_file: index + 1 });
+            let (number, numbered) = (run.steps, text.split_whitespace().count() != 4);
+            let text = if numbered { text.to_string() } else { format!("{number} {text}") };
+            run.expected.push(Expected { number, text, numbered, line_in_file: index + 1 });
         }
     }
     if !begun {
@@ -87,30 +105,38 @@ pub fn parse(text: &str) -> Result<Run, String> {
     Ok(run)
 }
 
-/// Compares what a program printed with the lines of a run.
-pub fn check(name: &str, run: &Run, output: &str) -> Result<(), String> {
+/// Every difference between what a program printed and the lines of a run.
+pub fn differences(name: &str, run: &Run, output: &str) -> Vec<Difference> {
     let printed: Vec<&str> = output.lines().collect();
+    let mut found = Vec::new();
     for line in &run.expected {
         let got = printed.get(line.number.wrapping_sub(1)).copied().unwrap_or("(nothing)");
         if got != line.text {
-            return Err(format!("{name}:{}: expected `{}`, printed `{got}`", line.line_in_file, line.text));
+            let text = format!("{name}:{}: expected `{}`, printed `{got}`", line.line_in_file, line.text);
+            found.push(Difference { line_in_file: Some(line.line_in_file), text });
         }
     }
+    let mut whole = |text| found.push(Difference { line_in_file: None, text });
     let malformed = run.expected.iter().find(|line| line.text.split(' ').nth(1) == Some("17"));
     let total = malformed.map_or(run.steps, |line| line.number);
     if printed.len() != total {
-        return Err(format!("{name}: {total} lines expected, {} printed", printed.len()));
+        whole(format!("{name}: {total} lines expected, {} printed", printed.len()));
     }
     if !output.is_empty() && !output.ends_with('\n') {
-        return Err(format!("{name}: the last line has no end"));
+        whole(format!("{name}: the last line has no end"));
     }
-    Ok(())
+    found
 }
 
-/// The text of a run with the lines that a program printed beside the steps, in columns.
+/// The text of a run with the lines that a program printed beside the steps, in columns. Where the first line of
+/// the file has left its number out, all do.
 pub fn fill(text: &str, run: &Run, output: &str) -> String {
     let printed: Vec<&str> = output.lines().collect();
-    let line_of = |number: &Option<usize>| number.and_then(|number| printed.get(number - 1)).copied();
+    let numbered = run.expected.first().map_or(true, |line| line.numbered);
+    let line_of = |number: &Option<usize>| {
+        let line = *printed.get((*number)? - 1)?;
+        Some(if numbered { line } else { line.split_once(' ').map_or(line, |(_, rest)| rest) })
+    };
     let rows: Vec<_> = text.lines().zip(run.numbers.iter().map(line_of)).collect();
     let width = rows.iter().filter(|row| row.1.is_some()).map(|row| parts(row.0).0.len()).max().unwrap_or(0);
     let longest = rows.iter().filter_map(|row| row.1).map(str::len).max().unwrap_or(0);

@@ -2,12 +2,13 @@
 //!
 //!     runs FILE.run > log               the bytes of the log
 //!     runs --lines FILE.run             the lines that it must print, one a line
-//!     runs --check FILE.run < output    compares a program's output with them
-//!     runs --fill FILE.run < output     the file again, with a program's lines beside the steps
+//!     runs --check FILE.run < output    compares a program's output with them, and lists every difference
+//!     runs --fill FILE.run < output     the file again, with a program's lines beside the steps; with step
+//!                                       numbers, unless its first line has left its number out
 
 use std::io::{read_to_string, stdin, stdout, Write};
 use std::process::exit;
-use tools::notation::{check, fill, parse};
+use tools::notation::{differences, fill, parse};
 
 fn main() {
     let words: Vec<String> = std::env::args().skip(1).collect();
@@ -24,10 +25,17 @@ fn main() {
     };
     let bytes = match mode {
         "--lines" => run.expected.iter().map(|line| format!("{}\n", line.text)).collect::<String>().into_bytes(),
-        "--check" => match check(file, &run, &output) {
-            Ok(()) => Vec::new(),
-            Err(difference) => fail(&difference),
-        },
+        "--check" => {
+            let found = differences(file, &run, &output);
+            for difference in &found {
+                eprintln!("{}", difference.text);
+            }
+            if !found.is_empty() {
+                let lines = found.iter().filter(|difference| difference.line_in_file.is_some()).count();
+                fail(&format!("lines that differ: {lines} of {}", run.expected.len()));
+            }
+            Vec::new()
+        }
         "--fill" => fill(&text, &run, &output).into_bytes(),
         _ => run.bytes,
     };
