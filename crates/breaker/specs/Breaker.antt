@@ -66,7 +66,7 @@ changeAt breaker back =
 abbrev pub pairSound : Pair → Bool
 pairSound p = leb (p .status) 1 && stampSound (p .stamp)
 
-abbrev allSound : List Pair → Bool
+abbrev pub allSound : List Pair → Bool
 allSound [] = true
 allSound (p ∷ ps) = pairSound p && allSound ps
 

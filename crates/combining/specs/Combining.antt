@@ -12,11 +12,12 @@ use Rattle.node.specs.declared.Resend.the-variants.{Armed}
 use Rattle.node.specs.declared.Record.{Record}
 use Rattle.node.specs.declared.Phase.{Phase}
 use Rattle.node.specs.declared.Phase.the-variants.{Down, Starting, Running}
-use Rattle.node.specs.declared.Node.{Node}
 use Rattle.pairs.specs.declared.Pairs.{Pairs}
 use Rattle.pairs.specs.declared.Pairs.the-variants.{Zero, One, Two}
+use Rattle.node.specs.declared.Changed.{Changed}
 use Rattle.node.specs.declared.Acted.{Acted}
 use Rattle.combining.specs.declared.Combined.{Combined}
+use Rattle.combining.specs.declared.Ended.{Ended}
 use Rattle.pairs.specs.Pair.{pair}
 use Rattle.node.specs.State.{attempts}
 
@@ -36,33 +37,34 @@ combined rec store f =
     (commanding rec (earliest store (rec .r .status) (rec .b .stamp) f))
     (record { rec = rec; command = No })
 
+-- the rule is of a node that the step leaves running
+abbrev pub ended : Phase → Store → ℕ → Ended
+ended Down store f = record { phase = Down; command = No }
+ended (Starting l) store f = record { phase = Starting l; command = No }
+ended (Running rec) store f = record { phase = Running (combined rec store f .rec); command = combined rec store f .command }
+
 -- "Own shares count at once as delivered."
 unfoldable pub putAll : Store → ℕ → Pairs → Store
 putAll store i Zero = store
 putAll store i (One p) = put store i (p .status) (p .stamp)
 putAll store i (Two p q) = put (put store i (p .status) (p .stamp)) i (q .status) (q .stamp)
 
--- one more after those that are sent already
-abbrev pub followed : Pairs → Known → Pairs
-followed Zero (Yes p) = One p
-followed Zero No = Zero
-followed (One p) (Yes q) = Two p q
-followed (One p) No = One p
-followed (Two p q) k = Two p q
+-- the commands of a step: the event's own, then that of the combining rule
+abbrev pub followed : Known → Known → Pairs
+followed (Yes p) (Yes q) = Two p q
+followed (Yes p) No = One p
+followed No (Yes q) = One q
+followed No No = Zero
 
-abbrev pub finishedRunning : Record → Store → Pairs → Pairs → ℕ → Acted
-finishedRunning rec store shares commands f =
+-- with the node's own shares in its store
+abbrev finishedWith : Changed → Store → ℕ → Acted
+finishedWith change own f =
     record {
-      node = record { phase = Running (combined rec store f .rec); store = store };
-      shares = shares;
-      commands = followed commands (combined rec store f .command);
+      node = record { phase = ended (change .phase) own f .phase; store = own };
+      shares = change .shares;
+      commands = followed (change .command) (ended (change .phase) own f .command);
     }
 
-abbrev pub finishedPhase : Phase → Node → ℕ → Pairs → Pairs → ℕ → Acted
-finishedPhase Down node i shares commands f = record { node = node; shares = shares; commands = commands }
-finishedPhase (Starting l) node i shares commands f = record { node = node; shares = shares; commands = commands }
-finishedPhase (Running rec) node i shares commands f = finishedRunning rec (putAll (node .store) i shares) shares commands f
-
--- the end of an event at node i: its own shares are delivered to it, and where it runs the combining rule is applied
-unfoldable pub finished : Acted → ℕ → ℕ → Acted
-finished event i f = finishedPhase (event .node .phase) (event .node) i (event .shares) (event .commands) f
+-- the end of an event at node i, which changed the phase so and left this store: its own shares are delivered to it, and the combining rule is applied
+unfoldable pub finished : Changed → Store → ℕ → ℕ → Acted
+finished change store i f = finishedWith change (putAll store i (change .shares)) f

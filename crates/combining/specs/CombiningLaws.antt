@@ -1,24 +1,27 @@
 -- What the combining rule leaves.
 use Prim.Native.Nat.{ℕ}
-use mathlib.Core.Path.{_≡_, refl, sym, ap, _∙_}
-use mathlib.Core.Bool.{Bool, true, false, cond, false≢true}
+use mathlib.Core.Path.{_≡_, refl, sym, ap, subst, _∙_}
+use mathlib.Core.Bool.{Bool, true, false, _&&_, _||_, cond, false≢true}
 use mathlib.Core.Logic.{_⊎_, inl, inr}
+use lib.Dec.{eqb}
 use borrow.Author.Tests.{eq-eqb}
 use Rattle.store.specs.declared.Store.{Store}
 use Rattle.store.specs.declared.Earliest.{Earliest}
 use Rattle.store.specs.declared.Earliest.the-variants.{Stamp, Nothing}
 use Rattle.store.specs.Earliest.{earliest}
+use Rattle.pairs.specs.declared.Pair.{Pair}
+use Rattle.pairs.specs.declared.Known.{Known}
 use Rattle.pairs.specs.declared.Known.the-variants.{Yes, No}
-use Rattle.pairs.specs.declared.Pairs.{Pairs}
-use Rattle.pairs.specs.declared.Pairs.the-variants.{Zero, One, Two}
 use Rattle.node.specs.declared.Learned.{Learned}
 use Rattle.node.specs.declared.Record.{Record}
 use Rattle.node.specs.declared.Phase.{Phase}
-use Rattle.node.specs.declared.Phase.the-variants.{Starting, Running}
-use Rattle.node.specs.declared.Acted.{Acted}
-use Rattle.pairs.specs.Pair.{pair}
+use Rattle.node.specs.declared.Phase.the-variants.{Down, Starting, Running}
+use Rattle.pairs.specs.Pair.{pair, listed, has}
+use Rattle.pairs.specs.KnownLaws.{isKnown}
 use Rattle.node.specs.State.{attempts, saysWait, state, same-no-wait}
-use Rattle.combining.specs.Combining.{commanding, combined, putAll, followed, finishedPhase, finished}
+use Rattle.node.specs.Asked.{phaseRunning, knownR, knownB}
+use Rattle.node.specs.PhaseLaws.{GoesOn, goes-same, goes-running, same-record}
+use Rattle.combining.specs.Combining.{commanding, combined, ended, followed}
 
 -- nothing is left to combine
 abbrev pub Quiet : Record → Store → ℕ → Type 0
@@ -56,12 +59,6 @@ combined-b rec store f = go (attempts (rec .r) (rec .b)) (earliest store (rec .r
     go true Nothing = inl refl
     go true (Stamp T) = inr refl
 
--- no command leaves what is sent as it is
-pub none-follows : (before : Pairs) → before ≡ followed before No
-none-follows Zero = refl
-none-follows (One p) = refl
-none-follows (Two p q) = refl
-
 -- a record that does not wait does not wait afterwards: where a command is sent, the node is done
 pub combined-no-wait : (rec : Record) (store : Store) (f : ℕ) → saysWait (state (rec .r) (rec .b)) ≡ false
     → saysWait (state (combined rec store f .rec .r) (combined rec store f .rec .b)) ≡ false
@@ -74,14 +71,59 @@ combined-no-wait rec store f h = go (attempts (rec .r) (rec .b)) (earliest store
     go true Nothing = h
     go true (Stamp T) = same-no-wait (rec .r) (pair (rec .r .status) T) (eq-eqb (rec .r .status) (rec .r .status) refl)
 
--- ---- the end of an event, by the phase that it left
+-- ---- a phase at the end of an event
 
-module _ (event : Acted) (i f : ℕ) where
-  pub finished-running : (rec : Record) → event .node .phase ≡ Running rec
-      → finished event i f .node .phase ≡ Running (combined rec (putAll (event .node .store) i (event .shares)) f .rec)
-  unfolding finished
-  finished-running rec e = ap (λ (p : Phase). finishedPhase p (event .node) i (event .shares) (event .commands) f .node .phase) e
+module _ (store : Store) (f : ℕ) where
+  pub ended-r : (p : Phase) → knownR (ended p store f .phase) ≡ knownR p
+  ended-r Down = refl
+  ended-r (Starting l) = refl
+  ended-r (Running rec) = ap Yes (combined-r rec store f)
 
-  pub finished-starting : (l : Learned) → event .node .phase ≡ Starting l → finished event i f .node .phase ≡ Starting l
-  unfolding finished
-  finished-starting l e = ap (λ (p : Phase). finishedPhase p (event .node) i (event .shares) (event .commands) f .node .phase) e ∙ e
+  -- whether b is known is as it was
+  pub ended-knows : (p : Phase) → isKnown (knownB (ended p store f .phase)) ≡ isKnown (knownB p)
+  ended-knows Down = refl
+  ended-knows (Starting l) = refl
+  ended-knows (Running rec) = refl
+
+  pub ended-goes : (p : Phase) → GoesOn p (ended p store f .phase)
+  ended-goes Down = goes-same refl
+  ended-goes (Starting l) = goes-same refl
+  ended-goes (Running rec) = goes-running rec _
+
+  -- it runs only if the event left it running
+  pub ended-runs : (p : Phase) → phaseRunning (ended p store f .phase) ≡ true → phaseRunning p ≡ true
+  ended-runs Down e = e
+  ended-runs (Starting l) e = e
+  ended-runs (Running rec) e = refl
+
+  pub ended-starting : (l : Learned) (p : Phase) → p ≡ Starting l → ended p store f .phase ≡ Starting l
+  ended-starting l p e = ap (λ (q : Phase). ended q store f .phase) e
+
+  -- a running node's b is what the event left, or the command that is sent; and nothing is left to combine
+  pub ended-b : (p : Phase) (new : Record) → ended p store f .phase ≡ Running new → (knownB p ≡ Yes (new .b)) ⊎ (ended p store f .command ≡ Yes (new .b))
+  ended-b Down new e = absurd (false≢true (ap phaseRunning e))
+  ended-b (Starting l) new e = absurd (false≢true (ap phaseRunning e))
+  ended-b (Running rec) new e =
+      subst (λ (x : Record). (Yes (rec .b) ≡ Yes (x .b)) ⊎ (combined rec store f .command ≡ Yes (x .b))) (same-record _ new e) (go (combined-b rec store f))
+    where
+      go : (combined rec store f .rec .b ≡ rec .b) ⊎ (combined rec store f .command ≡ Yes (combined rec store f .rec .b))
+          → (Yes (rec .b) ≡ Yes (combined rec store f .rec .b)) ⊎ (combined rec store f .command ≡ Yes (combined rec store f .rec .b))
+      go (inl e) = inl (ap Yes (sym e))
+      go (inr e) = inr e
+
+  pub ended-quiet : (p : Phase) (new : Record) → ended p store f .phase ≡ Running new → Quiet new store f
+  ended-quiet Down new e = absurd (false≢true (ap phaseRunning e))
+  ended-quiet (Starting l) new e = absurd (false≢true (ap phaseRunning e))
+  ended-quiet (Running rec) new e = subst (λ (x : Record). Quiet x store f) (same-record _ new e) (combined-quiet rec store f)
+
+-- the command of the combining rule is among those sent
+pub followed-has : (before : Known) (p : Pair) → has (listed (followed before (Yes p))) (p .status) (p .stamp) ≡ true
+followed-has No p = simp (eq-eqb (p .status) (p .status) refl, eq-eqb (p .stamp .0) (p .stamp .0) refl)
+followed-has (Yes q) p = last (eqb (p .status) (q .status) && eqb (p .stamp .0) (q .stamp .0)) _ self
+  where
+    self : (eqb (p .status) (p .status) && eqb (p .stamp .0) (p .stamp .0)) ≡ true
+    self = simp (eq-eqb (p .status) (p .status) refl, eq-eqb (p .stamp .0) (p .stamp .0) refl)
+
+    last : (x y : Bool) → y ≡ true → (x || (y || false)) ≡ true
+    last true y e = refl
+    last false y e = ap (λ (z : Bool). z || false) e

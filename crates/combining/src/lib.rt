@@ -1,5 +1,6 @@
 // The combining rule, and the end of an event.
 use node::Acted;
+use node::Changed;
 use node::Node;
 use node::Phase;
 use node::Record;
@@ -12,11 +13,17 @@ use store::Earliest;
 use store::Store;
 use time::Dts;
 ghost use mathlib.Core.Path.{_≡_};
-ghost use Rattle.combining.specs.Combining.{commanding, combined, putAll, followed, finishedRunning, finished};
+ghost use Rattle.combining.specs.Combining.{commanding, combined, ended, putAll, followed, finished};
 
 // A record after the combining rule, and the command that it sends.
 pub struct Combined {
     pub rec: Record,
+    pub command: Known,
+}
+
+// A phase at the end of an event, and the command that the combining rule sends.
+pub struct Ended {
+    pub phase: Phase,
     pub command: Known,
 }
 
@@ -58,6 +65,24 @@ pub fn combine(rec: Record, store: Store, f: u8) -> Combined
     }
 }
 
+fn end(phase: Phase, store: Store, f: u8) -> Ended
+    ensures { λ out. ⌜ out ≡ ended phase store f ⌝ }
+{
+    let Phase::Running(rec) = phase else {
+        return Ended {
+            phase,
+            command: Known::No,
+        };
+    };
+    let after = combine(rec, store, f);
+    let next = after.rec;
+    let command = after.command;
+    Ended {
+        phase: Phase::Running(next),
+        command,
+    }
+}
+
 // The store with shares of a sender's.
 pub fn put_all(store: Store, sender: u8, shares: Pairs) -> Store
     ensures { λ out. ⌜ out ≡ putAll store sender shares ⌝ }
@@ -72,52 +97,40 @@ pub fn put_all(store: Store, sender: u8, shares: Pairs) -> Store
     }
 }
 
-fn follow(before: Pairs, command: Known) -> Pairs
+// The commands of a step: the event's own, then that of the combining rule.
+fn follow(before: Known, command: Known) -> Pairs
     ensures { λ out. ⌜ out ≡ followed before command ⌝ }
 {
-    let Known::Yes(q) = command else {
-        return before;
-    };
     match before {
-        Pairs::Zero => Pairs::One(q),
-        Pairs::One(p) => Pairs::Two(p, q),
-        Pairs::Two(_, _) => before,
+        Known::Yes(p) => match command {
+            Known::Yes(q) => Pairs::Two(p, q),
+            Known::No => Pairs::One(p),
+        },
+        Known::No => match command {
+            Known::Yes(q) => Pairs::One(q),
+            Known::No => Pairs::Zero,
+        },
     }
 }
 
-fn finish_running(rec: Record, store: Store, shares: Pairs, commands: Pairs, f: u8) -> Acted
-    ensures { λ out. ⌜ out ≡ finishedRunning rec store shares commands f ⌝ }
+// The end of an event at node i, which changed the phase so and left this store.
+pub fn finish(change: Changed, store: Store, i: u8, f: u8) -> Acted
+    ensures { λ out. ⌜ out ≡ finished change store i f ⌝ }
 {
-    let after = combine(rec, store, f);
-    let next = after.rec;
-    let command = after.command;
-    let node = Node {
-        phase: Phase::Running(next),
-        store,
-    };
-    let all = follow(commands, command);
+    let phase = change.phase;
+    let shares = change.shares;
+    let before = change.command;
+    let own = put_all(store, i, shares);
+    let at_end = end(phase, own, f);
+    let next = at_end.phase;
+    let command = at_end.command;
+    let commands = follow(before, command);
     Acted {
-        node,
+        node: Node {
+            phase: next,
+            store: own,
+        },
         shares,
-        commands: all,
-    }
-}
-
-// The end of an event at node i.
-pub fn finish(event: Acted, i: u8, f: u8) -> Acted
-    ensures { λ out. ⌜ out ≡ finished event i f ⌝ }
-{
-    let node = event.node;
-    let shares = event.shares;
-    let commands = event.commands;
-    let phase = node.phase;
-    let store = node.store;
-    match phase {
-        Phase::Down => event,
-        Phase::Starting(_) => event,
-        Phase::Running(rec) => {
-            let own = put_all(store, i, shares);
-            finish_running(rec, own, shares, commands, f)
-        }
+        commands,
     }
 }

@@ -19,8 +19,9 @@ use Rattle.pairs.specs.Pair.{pair}
 use Rattle.node.specs.State.{State, Done, Attempt, Wait, state}
 use Rattle.events.specs.Events.{wentDown}
 use Rattle.breaker.specs.Breaker.{started, changed, afterCommand, remembered, changesSound, breakerSound}
+use Rattle.steps.specs.declared.Beginning.{Beginning}
 use Rattle.steps.specs.declared.Step.{Step}
-use Rattle.steps.specs.declared.Step.the-variants.{Start, Command}
+use Rattle.steps.specs.declared.Step.the-variants.{Start, AtBreaker}
 use Rattle.site.specs.declared.Site.{Site}
 use Rattle.site.specs.Site.{nodes, setsSound, siteSound}
 use Rattle.refusing.specs.Tests.{verdict, testsOf}
@@ -56,10 +57,17 @@ isWait A (Done B) = false
 isWait A (Attempt B) = false
 isWait A (Wait B) = eqb A B
 
+abbrev beginning : (f k compromised status : ℕ) → Dts → Beginning
+beginning f k compromised status g = record { f = f; k = k; compromised = compromised; status = status; g = g }
+
+-- a command at the breaker's clock
+abbrev command : Dts → ℕ → Dts → Step
+command t A T = AtBreaker t (record { status = A; stamp = T })
+
 -- f = 1, k = 0, node 2 compromised, the breaker (CLOSE, 100), g = 100; node 0 has shared TRIP at 100 and at 101
 abbrev site : Site
 site =
-    withMade (startedSite 1 0 4 CLOSE (at 100)) (put (put (empty (at 100)) 0 TRIP (at 100)) 0 TRIP (at 101))
+    withMade (startedSite (beginning 1 0 4 CLOSE (at 100))) (put (put (empty (at 100)) 0 TRIP (at 100)) 0 TRIP (at 101))
 
 -- the number that a step is answered with, twelve records being lent
 abbrev answer : Step → ℕ
@@ -93,12 +101,12 @@ edges =
     ∷ (7, enough (joined (joined 0 0) 2) 1 && not (enough (joined (joined 0 2) 2) 1))
     -- breaker (CLOSE, 100), t = 100, verdict yes: TRIP at 100 is 11; TRIP at 101 is done, breaker (TRIP, 101)
     ∷ (8, verdict site TRIP (at 100) && verdict site TRIP (at 101))
-    ∷ (8, eqb (answer (Command (at 100) TRIP (at 100))) 11 && eqb (answer (Command (at 100) TRIP (at 101))) 0)
-    ∷ (8, eqb (breakerAfter (Command (at 100) TRIP (at 101)) .status) TRIP && eqb (breakerAfter (Command (at 100) TRIP (at 101)) .stamp .0) 101)
+    ∷ (8, eqb (answer (command (at 100) TRIP (at 100))) 11 && eqb (answer (command (at 100) TRIP (at 101))) 0)
+    ∷ (8, eqb (breakerAfter (command (at 100) TRIP (at 101)) .status) TRIP && eqb (breakerAfter (command (at 100) TRIP (at 101)) .stamp .0) 101)
     -- f = 4, k = 3 gives n = 12; f = 5 is 1
-    ∷ (9, eqb (nodes 4 3) 12 && eqb (answer (Start 4 3 0 CLOSE (at 100))) 0 && eqb (answer (Start 5 0 0 CLOSE (at 100))) 1)
+    ∷ (9, eqb (nodes 4 3) 12 && eqb (answer (Start (beginning 4 3 0 CLOSE (at 100)))) 0 && eqb (answer (Start (beginning 5 0 0 CLOSE (at 100)))) 1)
     -- f = 1 with two compromised is 1
-    ∷ (10, eqb (answer (Start 1 0 4 CLOSE (at 100))) 0 && eqb (answer (Start 1 0 6 CLOSE (at 100))) 1)
+    ∷ (10, eqb (answer (Start (beginning 1 0 4 CLOSE (at 100)))) 0 && eqb (answer (Start (beginning 1 0 6 CLOSE (at 100)))) 1)
     ∷ []
 
 abbrev pub all : List Edge → Bool

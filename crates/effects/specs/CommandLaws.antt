@@ -23,7 +23,7 @@ module _ (site : Site) (node : Node) (t : Dts) (A : ℕ) (T : Dts) where
   -- A command for the status that the breaker has sends the ack of the breaker's pair, whatever its own stamp; of the site the breaker's clock alone
   -- moves, to t, and the record stays.
   pub repeat-done : repeats (site .breaker) A ≡ true
-      → commanded site node t A T
+      → commanded site node t (record { status = A; stamp = T })
       ≡ done (record { shares = Zero; commands = Zero; ack = Yes (site .breaker .pair) })
       (withBreaker site (record { pair = site .breaker .pair; clock = t; changes = site .breaker .changes })) node
   unfolding commanded
@@ -31,7 +31,7 @@ module _ (site : Site) (node : Node) (t : Dts) (A : ℕ) (T : Dts) where
 
   -- Any other sends the ack of its own pair, with the larger of T and t; that pair is the breaker's, and stands in front of the other changes.
   pub change-done : repeats (site .breaker) A ≡ false
-      → commanded site node t A T
+      → commanded site node t (record { status = A; stamp = T })
       ≡ done (record { shares = Zero; commands = Zero; ack = Yes (pair A (larger T t)) })
       (withBreaker site (record { pair = pair A (larger T t); clock = t; changes = remembered (site .breaker .changes) (pair A (larger T t)) })) node
   unfolding commanded

@@ -6,17 +6,22 @@ use Rattle.time.specs.Fresh.{next}
 use Rattle.senders.specs.Masks.{isIn, joined, without}
 use Rattle.store.specs.Store.{empty, movedTo}
 use Rattle.pairs.specs.declared.Pair.{Pair}
-use Rattle.pairs.specs.declared.Known.{Known}
 use Rattle.pairs.specs.declared.Known.the-variants.{Yes, No}
 use Rattle.pairs.specs.declared.Pairs.the-variants.{Zero}
+use Rattle.steps.specs.declared.Beginning.{Beginning}
+use Rattle.steps.specs.declared.Event.{Event}
+use Rattle.steps.specs.declared.Turn.{Turn}
+use Rattle.steps.specs.declared.Turn.the-variants.{Down, Up}
+use Rattle.steps.specs.declared.Act.{Act}
 use Rattle.steps.specs.declared.Step.{Step}
-use Rattle.steps.specs.declared.Step.the-variants.{Start, Tick, Report, Deliver, ShareTimeout, ResendTimeout, Command, Ack, Query, Down, Up}
+use Rattle.steps.specs.declared.Step.the-variants.{Start, Tick, AtNode, Life, AtBreaker}
 use Rattle.node.specs.declared.Node.{Node}
 use Rattle.node.specs.declared.Acted.{Acted}
-use Rattle.combining.specs.Combining.{putAll, finished}
-use Rattle.events.specs.Events.{quiet, reported, delivered, shareTimedOut, resendTimedOut, acked, queried, wentDown, wentUp}
+use Rattle.combining.specs.Combining.{putAll}
+use Rattle.events.specs.Events.{wentDown, wentUp}
 use Rattle.breaker.specs.declared.Breaker.{Breaker}
-use Rattle.breaker.specs.Breaker.{started, afterCommand, changeAt}
+use Rattle.breaker.specs.Breaker.{started, afterCommand}
+use Rattle.acting.specs.Acting.{acted}
 use Rattle.store.specs.declared.Store.{Store}
 use Rattle.site.specs.declared.Site.{Site}
 use Rattle.site.specs.declared.Sent.{Sent}
@@ -65,16 +70,16 @@ withBreaker site breaker =
 -- ---- the steps
 
 -- "A later accepted Start replaces everything, as in a new process."
-unfoldable pub startedSite : ℕ → ℕ → ℕ → ℕ → Dts → Site
-startedSite f k compromised status g =
+unfoldable pub startedSite : Beginning → Site
+startedSite b =
     record {
       started = true;
-      f = f;
-      k = k;
-      compromised = compromised;
+      f = b .f;
+      k = b .k;
+      compromised = b .compromised;
       down = 0;
-      breaker = started status g;
-      made = empty g;
+      breaker = started (b .status) (b .g);
+      made = empty (b .g);
     }
 
 -- "Correct nodes begin starting up; a compromised node's record is down and stays so."
@@ -85,18 +90,13 @@ firstRecord compromised i = cond (isIn compromised i) wentDown wentUp
 unfoldable pub ticked : Site → Site
 ticked site = withMade site (movedTo (site .made) (next (g site)))
 
--- an event at node i: the combining rule at its end, and the shares that the site now knows to be made
-abbrev pub acting : Site → ℕ → Acted → Out
-acting site i acted =
-    done (record { shares = acted .shares; commands = acted .commands; ack = No }) (withMade site (putAll (site .made) i (acted .shares))) (acted .node)
+-- the end of an event at node i: what it made of the node, what it sends, and the shares that the site now knows to be made
+abbrev pub noted : Site → ℕ → Acted → Out
+noted site i end =
+    done (record { shares = end .shares; commands = end .commands; ack = No }) (withMade site (putAll (site .made) i (end .shares))) (end .node)
 
-unfoldable pub act : Site → ℕ → Acted → Out
-act site i event = acting site i (finished event i (site .f))
-
--- the change that an ack brings, if it is remembered
-abbrev pub ackedKnown : Node → Dts → Known → Acted
-ackedKnown node t (Yes change) = acked node t change
-ackedKnown node t No = quiet node
+unfoldable pub act : Site → Node → ℕ → Dts → Event → Out
+act site node i t event = noted site i (acted (site .breaker) node i (site .f) t event)
 
 -- an ack, and nothing else
 abbrev pub onlyAck : Pair → Sent
@@ -104,20 +104,20 @@ onlyAck p = record { shares = Zero; commands = Zero; ack = Yes p }
 
 -- A change "sends the ack of that pair"; a repeated command "sends the ack of the breaker's present pair" (§4 of 02). Both are the pair that the
 -- breaker then has.
-unfoldable pub commanded : Site → Node → Dts → ℕ → Dts → Out
-commanded site node t status T =
-    done (onlyAck (afterCommand (site .breaker) t status T .pair)) (withBreaker site (afterCommand (site .breaker) t status T)) node
+unfoldable pub commanded : Site → Node → Dts → Act → Out
+commanded site node t command =
+    done (onlyAck (afterCommand (site .breaker) t (command .status) (command .stamp) .pair))
+    (withBreaker site (afterCommand (site .breaker) t (command .status) (command .stamp))) node
+
+-- the site's own count of correct nodes that are down, and the record, after "Down loses the record. Up makes a down node a starting one"
+unfoldable pub turned : Site → ℕ → Turn → Out
+turned site i Down = done silence (withDown site (joined (site .down) i)) wentDown
+turned site i Up = done silence (withDown site (without (site .down) i)) wentUp
 
 -- what each step does
 unfoldable pub effectOf : Site → Node → Step → Out
-effectOf site node (Start f k compromised status g) = done silence (startedSite f k compromised status g) node
+effectOf site node (Start b) = done silence (startedSite b) node
 effectOf site node Tick = done silence (ticked site) node
-effectOf site node (Report i t status number) = act site i (reported node t status number)
-effectOf site node (Deliver sender i t status T) = act site i (delivered node t sender status T)
-effectOf site node (ShareTimeout i t) = act site i (shareTimedOut node t)
-effectOf site node (ResendTimeout i t) = act site i (resendTimedOut node t)
-effectOf site node (Command t status T) = commanded site node t status T
-effectOf site node (Ack i t back) = act site i (ackedKnown node t (changeAt (site .breaker) back))
-effectOf site node (Query i t) = act site i (queried node t (site .breaker .pair))
-effectOf site node (Down i) = done silence (withDown site (joined (site .down) i)) wentDown
-effectOf site node (Up i) = done silence (withDown site (without (site .down) i)) wentUp
+effectOf site node (AtNode i t event) = act site node i t event
+effectOf site node (Life i turn) = turned site i turn
+effectOf site node (AtBreaker t command) = commanded site node t command

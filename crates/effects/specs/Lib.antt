@@ -1,4 +1,3 @@
--- What each step does (Effects), the events among them (Parts), and what an accepted command does (CommandLaws).
+-- What each step does (Effects), and what an accepted command does (CommandLaws).
 pub mod Effects
-pub mod Parts
 pub mod CommandLaws

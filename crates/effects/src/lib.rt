@@ -1,6 +1,5 @@
 // What each step of a site does once its tests are passed.
 use breaker::Breaker;
-use node::Acted;
 use node::Node;
 use pairs::Known;
 use pairs::Pairs;
@@ -8,15 +7,16 @@ use site::Answer;
 use site::Out;
 use site::Sent;
 use site::Site;
+use steps::Act;
+use steps::Beginning;
+use steps::Event;
 use steps::Step;
+use steps::Turn;
 use store::Store;
 use time::Dts;
 ghost use mathlib.Core.Path.{_≡_};
-ghost use Rattle.senders.specs.Masks.{joined, without};
-ghost use Rattle.events.specs.Events.{wentDown, wentUp};
 ghost use Rattle.site.specs.Answers.{done, silence};
-ghost use Rattle.effects.specs.Effects.{withMade, withDown, withBreaker, startedSite, firstRecord, ticked, act, ackedKnown, commanded, effectOf};
-ghost use Rattle.effects.specs.Parts.{eventOf};
+ghost use Rattle.effects.specs.Effects.{withMade, withDown, withBreaker, startedSite, firstRecord, ticked, act, commanded, turned, effectOf};
 
 fn done(sent: Sent, site: Site, node: Node) -> Out
     ensures { λ out. ⌜ out ≡ done sent site node ⌝ }
@@ -63,10 +63,11 @@ fn with_breaker(site: Site, breaker: Breaker) -> Site
 }
 
 // An event at a node, to its end.
-fn act(site: Site, i: u8, event: Acted) -> Out
-    ensures { λ out. ⌜ out ≡ act site i event ⌝ }
+fn act(site: Site, node: Node, i: u8, t: Dts, event: Event) -> Out
+    ensures { λ out. ⌜ out ≡ act site node i t event ⌝ }
 {
-    let acted = combining::finish(event, i, site.f);
+    let breaker = site.breaker;
+    let acted = acting::act(breaker, node, i, site.f, t, event);
     let after = acted.node;
     let shares = acted.shares;
     let commands = acted.commands;
@@ -82,16 +83,17 @@ fn act(site: Site, i: u8, event: Acted) -> Out
 }
 
 // The site that a Start makes.
-fn fresh_site(f: u8, k: u8, compromised: u16, status: u8, g: Dts) -> Site
-    ensures { λ out. ⌜ out ≡ startedSite f k compromised status g ⌝ }
+fn fresh_site(beginning: Beginning) -> Site
+    ensures { λ out. ⌜ out ≡ startedSite beginning ⌝ }
 {
-    let breaker = breaker::start(status, g);
+    let g = beginning.g;
+    let breaker = breaker::start(beginning.status, g);
     let made = Store::empty(g);
     Site {
         started: true,
-        f,
-        k,
-        compromised,
+        f: beginning.f,
+        k: beginning.k,
+        compromised: beginning.compromised,
         down: 0,
         breaker,
         made,
@@ -118,10 +120,12 @@ fn tick(site: Site, node: Node) -> Out
     done(silence(), next, node)
 }
 
-fn command(site: Site, node: Node, t: Dts, status: u8, stamp: Dts) -> Out
-    ensures { λ out. ⌜ out ≡ commanded site node t status stamp ⌝ }
+fn command(site: Site, node: Node, t: Dts, act: Act) -> Out
+    ensures { λ out. ⌜ out ≡ commanded site node t act ⌝ }
 {
     let old = site.breaker;
+    let status = act.status;
+    let stamp = act.stamp;
     let breaker = breaker::command(old, t, status, stamp);
     let pair = breaker.pair;
     let next = with_breaker(site, breaker);
@@ -133,81 +137,36 @@ fn command(site: Site, node: Node, t: Dts, status: u8, stamp: Dts) -> Out
     done(sent, next, node)
 }
 
-fn down(site: Site, i: u8) -> Out
-    ensures { λ out. ⌜ out ≡ done silence (withDown site (joined (site .down) i)) wentDown ⌝ }
+fn turn(site: Site, i: u8, turn: Turn) -> Out
+    ensures { λ out. ⌜ out ≡ turned site i turn ⌝ }
 {
-    let next = with_down(site, senders::join(site.down, i));
-    done(silence(), next, events::down())
-}
-
-fn up(site: Site, i: u8) -> Out
-    ensures { λ out. ⌜ out ≡ done silence (withDown site (without (site .down) i)) wentUp ⌝ }
-{
-    let next = with_down(site, senders::forget(site.down, i));
-    done(silence(), next, events::up())
-}
-
-fn ack_known(node: Node, t: Dts, change: Known) -> Acted
-    ensures { λ out. ⌜ out ≡ ackedKnown node t change ⌝ }
-{
-    match change {
-        Known::Yes(pair) => events::ack(node, t, pair),
-        Known::No => events::sends_nothing(node),
-    }
-}
-
-// What an event makes of its node.
-fn event(breaker: Breaker, node: Node, step: Step) -> Acted
-    ensures { λ out. ⌜ out ≡ eventOf breaker node step ⌝ }
-{
-    match step {
-        Step::Report {
-            node: _,
-            t,
-            status,
-            number,
-        } => events::report(node, t, status, number),
-        Step::Deliver {
-            sender,
-            receiver: _,
-            t,
-            status,
-            stamp,
-        } => events::deliver(node, t, sender, status, stamp),
-        Step::ShareTimeout { node: _, t } => events::share_timeout(node, t),
-        Step::ResendTimeout { node: _, t } => events::resend_timeout(node, t),
-        Step::Ack { node: _, t, back } => {
-            let change = breaker::change_at(breaker, back);
-            ack_known(node, t, change)
+    match turn {
+        Turn::Down => {
+            let next = with_down(site, senders::join(site.down, i));
+            done(silence(), next, events::down())
         }
-        Step::Query { node: _, t } => events::query(node, t, breaker.pair),
-        _ => events::sends_nothing(node),
+        Turn::Up => {
+            let next = with_down(site, senders::forget(site.down, i));
+            done(silence(), next, events::up())
+        }
     }
 }
 
-// What a step does where none of its tests fails.
+// What a step does where none of its tests fails. Most steps are events: asked for first, they cost fewer instructions than in the `match` alone.
 pub fn effect(site: Site, node: Node, step: Step) -> Out
     ensures { λ out. ⌜ out ≡ effectOf site node step ⌝ }
 {
+    if let Step::AtNode { node: i, t, event } = step {
+        return act(site, node, i, t, event);
+    }
     match step {
-        Step::Start {
-            f,
-            k,
-            compromised,
-            status,
-            g,
-        } => {
-            let fresh = fresh_site(f, k, compromised, status, g);
+        Step::Start(beginning) => {
+            let fresh = fresh_site(beginning);
             done(silence(), fresh, node)
         }
         Step::Tick => tick(site, node),
-        Step::Command { t, status, stamp } => command(site, node, t, status, stamp),
-        Step::Down { node: i } => down(site, i),
-        Step::Up { node: i } => up(site, i),
-        _ => {
-            let breaker = site.breaker;
-            let i = steps::node_of(step);
-            act(site, i, event(breaker, node, step))
-        }
+        Step::AtNode { node: i, t, event } => act(site, node, i, t, event),
+        Step::Life { node: i, turn } => crate::turn(site, i, turn),
+        Step::AtBreaker { t, act } => command(site, node, t, act),
     }
 }

@@ -1,3 +1,4 @@
--- What each event makes of a node (Events), and what a report leaves (ReportLaws).
+-- What each event makes of a node (Events), what it leaves (EventLaws), and what a report leaves and shares (ReportLaws).
 pub mod Events
+pub mod EventLaws
 pub mod ReportLaws

@@ -9,7 +9,6 @@ use Rattle.refusals.specs.Bools.{and-true}
 use Rattle.time.specs.declared.Dts.{Dts}
 use Rattle.time.specs.Fresh.{next}
 use Rattle.time.specs.Larger.{larger, larger-second}
-use Rattle.store.specs.declared.Store.{Store}
 use Rattle.pairs.specs.declared.Pair.{Pair}
 use Rattle.pairs.specs.declared.Known.{Known}
 use Rattle.pairs.specs.declared.Known.the-variants.{Yes, No}
@@ -21,10 +20,9 @@ use Rattle.node.specs.declared.Learned.{Learned}
 use Rattle.node.specs.declared.Record.{Record}
 use Rattle.node.specs.declared.Phase.{Phase}
 use Rattle.node.specs.declared.Phase.the-variants.{Down, Starting, Running}
-use Rattle.node.specs.declared.Node.{Node}
 use Rattle.node.specs.State.{state, attempts, saysWait, no-older-no-wait}
-use Rattle.node.specs.Asked.{isDown, isRunning, inAttempt, knownB}
-use Rattle.events.specs.Events.{begun, onceKnown, reportStamp, reportShares, reportRunning, reported}
+use Rattle.node.specs.Asked.{phaseDown, phaseRunning, phaseAttempt, knownB}
+use Rattle.events.specs.Events.{onceKnown, begun, reportStamp, reportShares, reportRunning, reportStarting, reported}
 
 -- whatever the status reported, the state that the stamp leads to is not Wait
 pub stamped-no-wait : (A : ℕ) (t : Dts) (b : Pair) → saysWait (state (pair A (reportStamp (Yes b) t)) b) ≡ false
@@ -39,16 +37,13 @@ abbrev pub Told : ℕ → Dts → Phase → Type 0
 Told A t p = (l : Learned) × (p ≡ Starting l) × (l .r ≡ Yes (pair A t))
 
 -- "If a running node was not in Attempt and now is": no report ends in Wait, so it now is where the status reported is not b's
-abbrev pub entersBy : ℕ → Node → Bool
-entersBy A node = isRunning node && not (inAttempt node) && not (knownAs A (knownB node))
+abbrev pub entersBy : ℕ → Phase → Bool
+entersBy A p = phaseRunning p && not (phaseAttempt p) && not (knownAs A (knownB p))
 
-module _ (s : Store) (t : Dts) (A number : ℕ) where
-  abbrev at : Phase → Node
-  at p = record { phase = p; store = s }
-
+module _ (t : Dts) (A number : ℕ) where
   -- a node that knows b runs after a report, and b is as it was
-  pub report-knowing : (p : Phase) (b : Pair) → knownB (at p) ≡ Yes b → Stamped A t b (reported (at p) t A number .node .phase)
-  unfolding reported reportRunning begun
+  pub report-knowing : (p : Phase) (b : Pair) → knownB p ≡ Yes b → Stamped A t b (reported p t A number .phase)
+  unfolding reported reportRunning reportStarting begun
   report-knowing Down b e = absurd (none-known e)
   report-knowing (Starting l) b e =
       subst (λ (k : Known). Stamped A t b (onceKnown (record { r = Yes (pair A (reportStamp k t)); b = k; number = Number number })))
@@ -56,16 +51,16 @@ module _ (s : Store) (t : Dts) (A number : ℕ) where
   report-knowing (Running rec) b e = let q : rec .b ≡ b = same-known (rec .b) b e in (_, refl, ap (λ (x : Pair). pair A (larger t (x .stamp))) q, q)
 
   -- one that knows no b goes on starting up
-  pub report-unknowing : (p : Phase) → not (isDown (at p)) ≡ true → knownB (at p) ≡ No → Told A t (reported (at p) t A number .node .phase)
-  unfolding reported reportRunning begun
+  pub report-unknowing : (p : Phase) → not (phaseDown p) ≡ true → knownB p ≡ No → Told A t (reported p t A number .phase)
+  unfolding reported reportRunning reportStarting begun
   report-unknowing Down up e = absurd (false≢true up)
   report-unknowing (Starting l) up e =
       subst (λ (k : Known). Told A t (onceKnown (record { r = Yes (pair A (reportStamp k t)); b = k; number = Number number }))) (sym e) (_, refl, refl)
   report-unknowing (Running rec) up e = absurd (none-known (sym e))
 
   -- a report shares its status with t and with t + 1 exactly when the node runs, was not in Attempt, and b has another status
-  pub report-shares : (p : Phase) → reported (at p) t A number .shares ≡ cond (entersBy A (at p)) (Two (pair A t) (pair A (next t))) Zero
-  unfolding reported reportRunning reportShares begun
+  pub report-shares : (p : Phase) → reported p t A number .shares ≡ cond (entersBy A p) (Two (pair A t) (pair A (next t))) Zero
+  unfolding reported reportRunning reportStarting reportShares begun
   report-shares Down = refl
   report-shares (Starting l) = refl
   report-shares (Running rec) =

@@ -1,5 +1,5 @@
-// What each event makes of a node, before the combining rule. An event that the node's phase does not take leaves it as it was.
-use node::Acted;
+// What an event makes of a node: of its phase, before the combining rule, and of its store. An event that the phase does not take leaves it.
+use node::Changed;
 use node::Last;
 use node::Learned;
 use node::Node;
@@ -15,25 +15,16 @@ use pairs::Pairs;
 use store::Store;
 use time::Dts;
 ghost use mathlib.Core.Path.{_≡_};
-ghost use Rattle.events.specs.Events.{quiet, onceKnown, begun, kept, reportStamp, reportShares, reportRunning, reported, delivered, shareTimedOut, again, resendTimedOut, later, laterThan, ackRunning, acked, queried, wentDown, wentUp};
+ghost use Rattle.events.specs.Events.{unchanged, onceKnown, begun, storeAt, kept, reportStamp, reportShares, reportRunning, reportStarting, reportR, reported, shareTimedOut, again, resendTimedOut, later, laterThan, ackResend, ackRunning, ackStarting, acked, queried, wentDown, wentUp};
 
-// An event that leaves a node as it is given, and sends nothing.
-pub fn sends_nothing(node: Node) -> Acted
-    ensures { λ out. ⌜ out ≡ quiet node ⌝ }
+// An event that leaves the phase, and sends nothing.
+pub fn unchanged(phase: Phase) -> Changed
+    ensures { λ out. ⌜ out ≡ unchanged phase ⌝ }
 {
-    Acted {
-        node,
+    Changed {
+        phase,
         shares: Pairs::Zero,
-        commands: Pairs::Zero,
-    }
-}
-
-fn running(rec: Record, store: Store) -> Node
-    ensures { λ out. ⌜ out ≡ record { phase = Phase.Running rec; store = store } ⌝ }
-{
-    Node {
-        phase: Phase::Running(rec),
-        store,
+        command: Known::No,
     }
 }
 
@@ -58,14 +49,25 @@ fn join(learned: Learned) -> Phase
     })
 }
 
-fn begin(learned: Learned, t: Dts) -> Acted
-    ensures { λ out. ⌜ out ≡ begun learned t ⌝ }
+fn begin(learned: Learned) -> Changed
+    ensures { λ out. ⌜ out ≡ begun learned ⌝ }
 {
-    let node = Node {
+    Changed {
         phase: join(learned),
-        store: Store::empty(t),
-    };
-    sends_nothing(node)
+        shares: Pairs::Zero,
+        command: Known::No,
+    }
+}
+
+// The store at the clock of an event, for the phase that the event finds.
+pub fn store_at(phase: Phase, store: Store, t: Dts) -> Store
+    ensures { λ out. ⌜ out ≡ storeAt phase store t ⌝ }
+{
+    match phase {
+        Phase::Down => store,
+        Phase::Starting(_) => Store::empty(t),
+        Phase::Running(_) => store.move_to(t),
+    }
 }
 
 // Resend as it is after r and b changed: leaving Done disarms it.
@@ -84,6 +86,17 @@ fn report_stamp(b: Known, t: Dts) -> Dts
     match b {
         Known::Yes(pair) => time::larger(t, pair.stamp),
         Known::No => t,
+    }
+}
+
+// r after a report.
+fn report_r(phase: Phase, t: Dts, status: u8) -> Pair
+    ensures { λ out. ⌜ out ≡ reportR phase t status ⌝ }
+{
+    let known = known_b(phase);
+    Pair {
+        status,
+        stamp: report_stamp(known, t),
     }
 }
 
@@ -108,8 +121,8 @@ fn report_shares(old: Pair, r: Pair, b: Pair, t: Dts) -> Pairs
     }
 }
 
-fn report_running(rec: Record, store: Store, r: Pair, t: Dts, number: u32) -> Acted
-    ensures { λ out. ⌜ out ≡ reportRunning rec store r t number ⌝ }
+fn report_running(rec: Record, r: Pair, t: Dts, number: u32) -> Changed
+    ensures { λ out. ⌜ out ≡ reportRunning rec r t number ⌝ }
 {
     let b = rec.b;
     let resend = keep_resend(rec, r, b);
@@ -120,100 +133,77 @@ fn report_running(rec: Record, store: Store, r: Pair, t: Dts, number: u32) -> Ac
         resend,
     };
     let shares = report_shares(rec.r, r, b, t);
-    let moved = store.move_to(t);
-    Acted {
-        node: running(next, moved),
+    Changed {
+        phase: Phase::Running(next),
         shares,
-        commands: Pairs::Zero,
+        command: Known::No,
     }
 }
 
-pub fn report(node: Node, t: Dts, status: u8, number: u32) -> Acted
-    ensures { λ out. ⌜ out ≡ reported node t status number ⌝ }
+fn report_starting(learned: Learned, r: Pair, number: u32) -> Changed
+    ensures { λ out. ⌜ out ≡ reportStarting learned r number ⌝ }
 {
-    let phase = node.phase;
-    let store = node.store;
-    let known = known_b(node);
-    let r = Pair {
-        status,
-        stamp: report_stamp(known, t),
-    };
+    let b = learned.b;
+    begin(Learned {
+        r: Known::Yes(r),
+        b,
+        number: Last::Number(number),
+    })
+}
+
+pub fn report(phase: Phase, t: Dts, status: u8, number: u32) -> Changed
+    ensures { λ out. ⌜ out ≡ reported phase t status number ⌝ }
+{
+    let r = report_r(phase, t, status);
     match phase {
-        Phase::Down => sends_nothing(node),
-        Phase::Starting(learned) => {
-            let b = learned.b;
-            let told = Learned {
-                r: Known::Yes(r),
-                b,
-                number: Last::Number(number),
-            };
-            begin(told, t)
-        }
-        Phase::Running(rec) => report_running(rec, store, r, t, number),
+        Phase::Down => unchanged(phase),
+        Phase::Starting(learned) => report_starting(learned, r, number),
+        Phase::Running(rec) => report_running(rec, r, t, number),
     }
 }
 
-pub fn deliver(node: Node, t: Dts, sender: u8, status: u8, stamp: Dts) -> Acted
-    ensures { λ out. ⌜ out ≡ delivered node t sender status stamp ⌝ }
+pub fn share_timeout(phase: Phase, t: Dts) -> Changed
+    ensures { λ out. ⌜ out ≡ shareTimedOut phase t ⌝ }
 {
-    let phase = node.phase;
-    let store = node.store;
     let Phase::Running(rec) = phase else {
-        return sends_nothing(node);
-    };
-    let moved = store.move_to(t);
-    let with = moved.put(sender, status, stamp);
-    sends_nothing(running(rec, with))
-}
-
-pub fn share_timeout(node: Node, t: Dts) -> Acted
-    ensures { λ out. ⌜ out ≡ shareTimedOut node t ⌝ }
-{
-    let phase = node.phase;
-    let store = node.store;
-    let Phase::Running(rec) = phase else {
-        return sends_nothing(node);
+        return unchanged(phase);
     };
     let share = Pair {
         status: rec.r.status,
         stamp: t,
     };
-    let moved = store.move_to(t);
-    Acted {
-        node: running(rec, moved),
+    Changed {
+        phase,
         shares: Pairs::One(share),
-        commands: Pairs::Zero,
+        command: Known::No,
     }
 }
 
 // The command that is sent again.
-fn again(resend: Resend, b: Pair) -> Pairs
+fn again(resend: Resend, b: Pair) -> Known
     ensures { λ out. ⌜ out ≡ again resend b ⌝ }
 {
     match resend {
-        Resend::Armed(stamp) => Pairs::One(Pair {
+        Resend::Armed(stamp) => Known::Yes(Pair {
             status: b.status,
             stamp,
         }),
-        Resend::Off => Pairs::Zero,
+        Resend::Off => Known::No,
     }
 }
 
-pub fn resend_timeout(node: Node, t: Dts) -> Acted
-    ensures { λ out. ⌜ out ≡ resendTimedOut node t ⌝ }
+pub fn resend_timeout(phase: Phase) -> Changed
+    ensures { λ out. ⌜ out ≡ resendTimedOut phase ⌝ }
 {
-    let phase = node.phase;
-    let store = node.store;
     let Phase::Running(rec) = phase else {
-        return sends_nothing(node);
+        return unchanged(phase);
     };
-    let moved = store.move_to(t);
     let resend = rec.resend;
-    let commands = again(resend, rec.b);
-    Acted {
-        node: running(rec, moved),
+    let command = again(resend, rec.b);
+    Changed {
+        phase,
         shares: Pairs::Zero,
-        commands,
+        command,
     }
 }
 
@@ -237,67 +227,74 @@ fn later_than(b: Known, change: Pair) -> Pair
     }
 }
 
-fn ack_running(rec: Record, store: Store, t: Dts, change: Pair) -> Acted
-    ensures { λ out. ⌜ out ≡ ackRunning rec store t change ⌝ }
+// Resend after an ack that leaves b so.
+fn ack_resend(rec: Record, b: Pair, change: Pair) -> Resend
+    ensures { λ out. ⌜ out ≡ ackResend rec b change ⌝ }
 {
-    let r = rec.r;
-    let old = rec.b;
-    let number = rec.number;
-    let b = later(old, change);
-    let kept = keep_resend(rec, r, b);
-    let resend = if is_done(change, old) {
+    if is_done(change, rec.b) {
         Resend::Off
     } else {
-        kept
-    };
+        keep_resend(rec, rec.r, b)
+    }
+}
+
+fn ack_running(rec: Record, change: Pair) -> Changed
+    ensures { λ out. ⌜ out ≡ ackRunning rec change ⌝ }
+{
+    let r = rec.r;
+    let number = rec.number;
+    let b = later(rec.b, change);
+    let resend = ack_resend(rec, b, change);
     let next = Record {
         r,
         b,
         number,
         resend,
     };
-    let moved = store.move_to(t);
-    sends_nothing(running(next, moved))
-}
-
-pub fn ack(node: Node, t: Dts, change: Pair) -> Acted
-    ensures { λ out. ⌜ out ≡ acked node t change ⌝ }
-{
-    let phase = node.phase;
-    let store = node.store;
-    match phase {
-        Phase::Down => sends_nothing(node),
-        Phase::Starting(learned) => {
-            let r = learned.r;
-            let number = learned.number;
-            let known = learned.b;
-            let b = later_than(known, change);
-            let told = Learned {
-                r,
-                b: Known::Yes(b),
-                number,
-            };
-            begin(told, t)
-        }
-        Phase::Running(rec) => ack_running(rec, store, t, change),
+    Changed {
+        phase: Phase::Running(next),
+        shares: Pairs::Zero,
+        command: Known::No,
     }
 }
 
-pub fn query(node: Node, t: Dts, breaker: Pair) -> Acted
-    ensures { λ out. ⌜ out ≡ queried node t breaker ⌝ }
+fn ack_starting(learned: Learned, change: Pair) -> Changed
+    ensures { λ out. ⌜ out ≡ ackStarting learned change ⌝ }
 {
-    let phase = node.phase;
+    let r = learned.r;
+    let number = learned.number;
+    let known = learned.b;
+    let b = later_than(known, change);
+    begin(Learned {
+        r,
+        b: Known::Yes(b),
+        number,
+    })
+}
+
+pub fn ack(phase: Phase, change: Pair) -> Changed
+    ensures { λ out. ⌜ out ≡ acked phase change ⌝ }
+{
+    match phase {
+        Phase::Down => unchanged(phase),
+        Phase::Starting(learned) => ack_starting(learned, change),
+        Phase::Running(rec) => ack_running(rec, change),
+    }
+}
+
+pub fn query(phase: Phase, breaker: Pair) -> Changed
+    ensures { λ out. ⌜ out ≡ queried phase breaker ⌝ }
+{
     let Phase::Starting(learned) = phase else {
-        return sends_nothing(node);
+        return unchanged(phase);
     };
     let r = learned.r;
     let number = learned.number;
-    let told = Learned {
+    begin(Learned {
         r,
         b: Known::Yes(breaker),
         number,
-    };
-    begin(told, t)
+    })
 }
 
 // A node that is down has lost its record, the clock too.

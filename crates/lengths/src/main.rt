@@ -3,6 +3,7 @@ use libc::STDOUT_FILENO;
 use node::Node;
 use site::Answer;
 use site::Site;
+use steps::Beginning;
 use steps::Step;
 use time::Dts;
 ghost use Prim.Native.Nat.{_≤_};
@@ -42,13 +43,13 @@ fn start_with(f: u8, k: u8, count: usize) -> Site {
     let run = run::begin();
     let site = run.site;
     let down = events::down();
-    let step = Step::Start {
+    let step = Step::Start(Beginning {
         f,
         k,
         compromised: 0,
         status: 0,
         g: Dts(100),
-    };
+    });
     let whole = lent::step_within(site, [down; 12], count, step);
     let answer = whole.answer;
     let nodes = whole.nodes;

@@ -9,8 +9,8 @@ use Rattle.tables.specs.Tables.{table}
 use Rattle.node.specs.declared.Node.{Node}
 use Rattle.events.specs.Events.{wentDown}
 use Rattle.steps.specs.declared.Step.{Step}
-use Rattle.steps.specs.Actor.{actor}
-use Rattle.steps.specs.declared.Step.the-variants.{Start, Tick, Report, Deliver, ShareTimeout, ResendTimeout, Command, Ack, Query, Down, Up}
+use Rattle.steps.specs.Named.{named}
+use Rattle.steps.specs.declared.Step.the-variants.{Start, Tick, AtNode, Life, AtBreaker}
 use Rattle.site.specs.declared.Site.{Site}
 use Rattle.site.specs.declared.Answer.{Answer}
 use Rattle.site.specs.declared.Answer.the-variants.{Done, Refused}
@@ -26,7 +26,7 @@ recordOf (some i) records = getD records i wentDown
 
 -- the step with that record
 unfoldable pub outOf : Site → List Node → Step → Out
-outOf site records step = stepped site (length records) (recordOf (actor step) records) step
+outOf site records step = stepped site (length records) (recordOf (named step .actor) records) step
 
 -- the records that a Start makes, in front of those that it leaves
 abbrev pub firstRecords : ℕ → ℕ → List Node → List Node
@@ -34,17 +34,11 @@ firstRecords n compromised records = table n (firstRecord compromised) ++ drop n
 
 -- the table after an answer to a step
 abbrev pub afterDone : Step → List Node → Node → List Node
-afterDone (Start f k compromised status g) records node = firstRecords (nodes f k) compromised records
+afterDone (Start b) records node = firstRecords (nodes (b .f) (b .k)) (b .compromised) records
 afterDone Tick records node = records
-afterDone (Report i t status number) records node = set records i node
-afterDone (Deliver sender i t status T) records node = set records i node
-afterDone (ShareTimeout i t) records node = set records i node
-afterDone (ResendTimeout i t) records node = set records i node
-afterDone (Command t status T) records node = records
-afterDone (Ack i t back) records node = set records i node
-afterDone (Query i t) records node = set records i node
-afterDone (Down i) records node = set records i node
-afterDone (Up i) records node = set records i node
+afterDone (AtNode i t event) records node = set records i node
+afterDone (Life i turn) records node = set records i node
+afterDone (AtBreaker t act) records node = records
 
 -- "a refused step changes none"
 abbrev pub tableAfterAnswer : Answer → Step → List Node → Node → List Node

@@ -1,31 +1,27 @@
 -- Laws of the lent table: records that are made one by one, and what a step that is done has found in the table.
 use Prim.Native.Nat.{ℕ, zero, suc, _≤_, _<_}
 use mathlib.Core.Path.{_≡_, refl, sym, ap, ap₂, subst, _∙_}
-use mathlib.Core.Bool.{Bool, true, false, _&&_, and-eq-true-iff}
+use mathlib.Core.Bool.{false}
 use mathlib.Core.List.{List, [], _∷_, _++_, append-nil}
 use mathlib.Core.Option.{Option, none, some}
 use native.Mathlib.Nat.{not-suc-le-zero, le-of-suc-le-suc}
 use native.Mathlib.Omega.{arith}
-use lib.Dec.{leb}
 use lib.ListN.{length, set, take, drop, drop-of-length-le}
 use lib.Seq.{take-all}
-use borrow.Author.Tests.{ltb-true, leb-true}
-use Rattle.refusals.specs.Tests.{Test, refusal, passed, done-passed, each-passed}
 use Rattle.tables.specs.Tables.{table}
 use Rattle.node.specs.declared.Node.{Node}
 use Rattle.steps.specs.declared.Step.{Step}
-use Rattle.steps.specs.declared.Step.the-variants.{Start, Tick, Report, Deliver, ShareTimeout, ResendTimeout, Command, Ack, Query, Down, Up}
+use Rattle.steps.specs.declared.Step.the-variants.{Start, Tick, AtNode, Life, AtBreaker}
 use Rattle.site.specs.declared.Site.{Site}
 use Rattle.site.specs.declared.Answer.{Answer}
 use Rattle.site.specs.declared.Answer.the-variants.{Done, Refused}
-use Rattle.site.specs.Site.{nodes, n, numbersSound, setsSound, siteSound, actorSound}
-use Rattle.refusing.specs.Tests.{isNode, startTests, testsOf}
+use Rattle.site.specs.Site.{nodes}
+use Rattle.refusing.specs.Accepted.{Passes, begins, happens, turns}
 use Rattle.effects.specs.Effects.{firstRecord, effectOf}
 use Rattle.stepping.specs.StepLaws.{by-tests}
 use Rattle.site.specs.Answers.{isDone}
-use Rattle.breaker.specs.Breaker.{breakerSound}
 use Rattle.lent.specs.Lent.{recordOf, outOf, firstRecords, tableAfter, Said, SaidWithin}
-use Rattle.steps.specs.Actor.{actor}
+use Rattle.steps.specs.Named.{named}
 use Rattle.lent.specs.InTurn.{startsOf, beginsOf}
 
 -- ---- records that are made
@@ -59,65 +55,37 @@ module _ (compromised : ℕ) (records : List Node) where
 
 -- ---- a step that is done names a node of the table, or none
 
-below : (site : Site) (lent : ℕ) (node : Node) (i : ℕ) (fields : Bool) → (siteSound site lent && actorSound site node i) ≡ true → (isNode site i && fields) ≡ true → i < lent
-unfolding siteSound
-below site lent node i fields p q =
-    let sound = and-eq-true-iff (siteSound site lent) (actorSound site node i) .0 p .0 in
-    let numbers = and-eq-true-iff (site .started && leb (n site) lent && numbersSound site && setsSound site (n site)) (breakerSound (site .breaker)) .0 sound .0 in
-    let sets = and-eq-true-iff (site .started && leb (n site) lent && numbersSound site) (setsSound site (n site)) .0 numbers .0 in
-    let long = and-eq-true-iff (site .started && leb (n site) lent) (numbersSound site) .0 sets .0 in
-    let most = leb-true (n site) lent (and-eq-true-iff (site .started) (leb (n site) lent) .0 long .1) in
-    let least = ltb-true i (n site) (and-eq-true-iff (isNode site i) fields .0 q .0) in
-    omega (arith, most, least)
-
 abbrev pub Within : Option ℕ → ℕ → Type 0
 Within none lent = Unit {0}
 Within (some i) lent = i < lent
 
-by-first : (site : Site) (lent : ℕ) (node : Node) (i : ℕ) (fields : Bool) (ts : List Test) → passed ((16, siteSound site lent && actorSound site node i) ∷ (2, isNode site i && fields) ∷ ts) ≡ true → i < lent
-by-first site lent node i fields ts h = below site lent node i fields (each-passed 0 _ h) (each-passed 1 _ h)
-
-pub named-within : (site : Site) (lent : ℕ) (node : Node) (step : Step) → refusal (testsOf site lent node step) ≡ 0 → Within (actor step) lent
-unfolding testsOf
-named-within site lent node (Start f k compromised status g) e = tt
+pub named-within : (site : Site) (lent : ℕ) (node : Node) (step : Step) → Passes site lent node step → Within (named step .actor) lent
+named-within site lent node (Start b) e = tt
 named-within site lent node Tick e = tt
-named-within site lent node (Report i t status number) e = by-first site lent node i _ _ (done-passed _ refl e)
-named-within site lent node (Deliver sender i t status T) e = by-first site lent node i _ _ (done-passed _ refl e)
-named-within site lent node (ShareTimeout i t) e = by-first site lent node i _ _ (done-passed _ refl e)
-named-within site lent node (ResendTimeout i t) e = by-first site lent node i _ _ (done-passed _ refl e)
-named-within site lent node (Command t status T) e = tt
-named-within site lent node (Ack i t back) e = by-first site lent node i _ _ (done-passed _ refl e)
-named-within site lent node (Query i t) e = by-first site lent node i _ _ (done-passed _ refl e)
-named-within site lent node (Down i) e = by-first site lent node i _ _ (done-passed _ refl e)
-named-within site lent node (Up i) e = by-first site lent node i _ _ (done-passed _ refl e)
+named-within site lent node (AtNode i t event) e = happens site lent node i t event e .place .is-lent
+named-within site lent node (Life i turn) e = turns site lent node i turn e .is-lent
+named-within site lent node (AtBreaker t act) e = tt
 
 -- "a step that names a node" with no record is refused
-pub named-refused : (site : Site) (records : List Node) (step : Step) (i : ℕ) → actor step ≡ some i → length records ≤ i → isDone (outOf site records step .answer) ≡ false
+pub named-refused : (site : Site) (records : List Node) (step : Step) (i : ℕ) → named step .actor ≡ some i → length records ≤ i → isDone (outOf site records step .answer) ≡ false
 unfolding outOf
-named-refused site records step i named past =
-    by-tests (λ out. isDone (out .answer) ≡ false) site (length records) (recordOf (actor step) records) step
-    (λ e. let l : i < length records = subst (λ (o : Option ℕ). Within o (length records)) named (named-within site (length records) (recordOf (actor step) records) step e) in absurd (omega (arith, l, past)))
+named-refused site records step i is past =
+    by-tests (λ out. isDone (out .answer) ≡ false) site (length records) (recordOf (named step .actor) records) step
+    (λ e. let l : i < length records = subst (λ (o : Option ℕ). Within o (length records)) is (named-within site (length records) (recordOf (named step .actor) records) step e) in absurd (omega (arith, l, past)))
     (λ number. refl)
 
 -- ---- a Start that is done has its records in the table
 
-starts-within : (site : Site) (lent : ℕ) (node : Node) (step : Step) → refusal (testsOf site lent node step) ≡ 0 → (startsOf step ≤ 12) × (startsOf step ≤ lent)
-unfolding testsOf
-starts-within site lent node (Start f k compromised status g) e =
-    let h = done-passed (startTests lent f k compromised status g) refl e in
-    let most-f = leb-true f 4 (each-passed 0 _ h) in
-    let most-k = leb-true k 3 (each-passed 1 _ h) in
-    (omega (arith, most-f, most-k), leb-true (nodes f k) lent (each-passed 6 _ h))
+starts-within : (site : Site) (lent : ℕ) (node : Node) (step : Step) → Passes site lent node step → (startsOf step ≤ 12) × (startsOf step ≤ lent)
+starts-within site lent node (Start b) e =
+    let begun = begins site lent node b e in
+    let most-f = begun .most-f in
+    let most-k = begun .most-k in
+    (omega (arith, most-f, most-k), begun .lends)
 starts-within site lent node Tick e = (omega arith, omega arith)
-starts-within site lent node (Report i t status number) e = (omega arith, omega arith)
-starts-within site lent node (Deliver sender i t status T) e = (omega arith, omega arith)
-starts-within site lent node (ShareTimeout i t) e = (omega arith, omega arith)
-starts-within site lent node (ResendTimeout i t) e = (omega arith, omega arith)
-starts-within site lent node (Command t status T) e = (omega arith, omega arith)
-starts-within site lent node (Ack i t back) e = (omega arith, omega arith)
-starts-within site lent node (Query i t) e = (omega arith, omega arith)
-starts-within site lent node (Down i) e = (omega arith, omega arith)
-starts-within site lent node (Up i) e = (omega arith, omega arith)
+starts-within site lent node (AtNode i t event) e = (omega arith, omega arith)
+starts-within site lent node (Life i turn) e = (omega arith, omega arith)
+starts-within site lent node (AtBreaker t act) e = (omega arith, omega arith)
 
 begins-le : (answer : Answer) (step : Step) → beginsOf answer step ≤ startsOf step
 begins-le (Done sent) step = omega arith
@@ -126,10 +94,10 @@ begins-le (Refused number) step = omega arith
 pub begins-within : (site : Site) (records : List Node) (step : Step) → (beginsOf (outOf site records step .answer) step ≤ 12) × (beginsOf (outOf site records step .answer) step ≤ length records)
 unfolding outOf
 begins-within site records step =
-    by-tests (λ out. (beginsOf (out .answer) step ≤ 12) × (beginsOf (out .answer) step ≤ length records)) site (length records) (recordOf (actor step) records) step
+    by-tests (λ out. (beginsOf (out .answer) step ≤ 12) × (beginsOf (out .answer) step ≤ length records)) site (length records) (recordOf (named step .actor) records) step
     (λ e.
-    let least = begins-le (effectOf site (recordOf (actor step) records) step .answer) step in
-    let most = starts-within site (length records) (recordOf (actor step) records) step e in
+    let least = begins-le (effectOf site (recordOf (named step .actor) records) step .answer) step in
+    let most = starts-within site (length records) (recordOf (named step .actor) records) step e in
     (omega (arith, least, most .0), omega (arith, least, most .1)))
     (λ number. (omega arith, omega arith))
 

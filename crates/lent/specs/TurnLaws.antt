@@ -10,7 +10,7 @@ use lib.Seq.{set-out, set-getD}
 use Rattle.node.specs.declared.Node.{Node}
 use Rattle.events.specs.Events.{wentDown}
 use Rattle.steps.specs.declared.Step.{Step}
-use Rattle.steps.specs.declared.Step.the-variants.{Start, Tick, Report, Deliver, ShareTimeout, ResendTimeout, Command, Ack, Query, Down, Up}
+use Rattle.steps.specs.declared.Step.the-variants.{Start, Tick, AtNode, Life, AtBreaker}
 use Rattle.site.specs.declared.Site.{Site}
 use Rattle.site.specs.declared.Answer.{Answer}
 use Rattle.site.specs.declared.Answer.the-variants.{Done, Refused}
@@ -19,7 +19,7 @@ use Rattle.site.specs.Site.{nodes}
 use Rattle.effects.specs.Effects.{effectOf}
 use Rattle.stepping.specs.Steps.{stepped}
 use Rattle.lent.specs.Lent.{recordOf, outOf, firstRecords, tableAfterAnswer, tableAfter, Said}
-use Rattle.steps.specs.Actor.{actor}
+use Rattle.steps.specs.Named.{named}
 use Rattle.lent.specs.InTurn.{indexOf, outAt, beginsOf, compromisedOf}
 use Rattle.lent.specs.LentLaws.{begun-none, begins-within}
 use Rattle.stepping.specs.StepLaws.{by-tests, effect-done}
@@ -29,9 +29,9 @@ record-at : (named : Option ℕ) (records : List Node) → getD records (indexOf
 record-at none records = List·getD-eq-default records wentDown (omega arith)
 record-at (some i) records = refl
 
-pub out-at-place : (site : Site) (records : List Node) (step : Step) → outAt site records (indexOf (actor step) (length records)) step ≡ outOf site records step
+pub out-at-place : (site : Site) (records : List Node) (step : Step) → outAt site records (indexOf (named step .actor) (length records)) step ≡ outOf site records step
 unfolding outOf
-out-at-place site records step = ap (λ (node : Node). stepped site (length records) node step) (record-at (actor step) records)
+out-at-place site records step = ap (λ (node : Node). stepped site (length records) node step) (record-at (named step .actor) records)
 
 -- a record that is written back as it was
 same-records : (named : Option ℕ) (records : List Node) → set records (indexOf named (length records)) (recordOf named records) ≡ records
@@ -40,35 +40,29 @@ same-records (some i) records = set-getD records i wentDown
 
 -- with the record written back and the records made, the table is as it should be
 after-done : (answer : Answer) → isDone answer ≡ true → (step : Step) (records : List Node) (node : Node)
-    → firstRecords (beginsOf answer step) (compromisedOf step) (set records (indexOf (actor step) (length records)) node) ≡ tableAfterAnswer answer step records node
-after-done (Done sent) h (Start f k compromised status g) records node = ap (firstRecords (nodes f k) compromised) (set-out records (length records) node (omega arith))
+    → firstRecords (beginsOf answer step) (compromisedOf step) (set records (indexOf (named step .actor) (length records)) node) ≡ tableAfterAnswer answer step records node
+after-done (Done sent) h (Start b) records node = ap (firstRecords (nodes (b .f) (b .k)) (b .compromised)) (set-out records (length records) node (omega arith))
 after-done (Done sent) h Tick records node = sym (begun-none 0 (set records (length records) node)) ∙ set-out records (length records) node (omega arith)
-after-done (Done sent) h (Report i t status number) records node = sym (begun-none 0 (set records i node))
-after-done (Done sent) h (Deliver sender i t status T) records node = sym (begun-none 0 (set records i node))
-after-done (Done sent) h (ShareTimeout i t) records node = sym (begun-none 0 (set records i node))
-after-done (Done sent) h (ResendTimeout i t) records node = sym (begun-none 0 (set records i node))
-after-done (Done sent) h (Command t status T) records node = sym (begun-none 0 (set records (length records) node)) ∙ set-out records (length records) node (omega arith)
-after-done (Done sent) h (Ack i t back) records node = sym (begun-none 0 (set records i node))
-after-done (Done sent) h (Query i t) records node = sym (begun-none 0 (set records i node))
-after-done (Done sent) h (Down i) records node = sym (begun-none 0 (set records i node))
-after-done (Done sent) h (Up i) records node = sym (begun-none 0 (set records i node))
+after-done (Done sent) h (AtNode i t event) records node = sym (begun-none 0 (set records i node))
+after-done (Done sent) h (Life i turn) records node = sym (begun-none 0 (set records i node))
+after-done (Done sent) h (AtBreaker t act) records node = sym (begun-none 0 (set records (length records) node)) ∙ set-out records (length records) node (omega arith)
 after-done (Refused number) h step records node = absurd (false≢true h)
 
 pub made-and-written : (site : Site) (records : List Node) (step : Step)
-    → firstRecords (beginsOf (outOf site records step .answer) step) (compromisedOf step) (set records (indexOf (actor step) (length records)) (outOf site records step .node)) ≡ tableAfter site records step
+    → firstRecords (beginsOf (outOf site records step .answer) step) (compromisedOf step) (set records (indexOf (named step .actor) (length records)) (outOf site records step .node)) ≡ tableAfter site records step
 unfolding outOf tableAfter
 made-and-written site records step =
-    by-tests (λ out. firstRecords (beginsOf (out .answer) step) (compromisedOf step) (set records (indexOf (actor step) (length records)) (out .node)) ≡ tableAfterAnswer (out .answer) step records (out .node)) site (length records)
-    (recordOf (actor step) records) step
-    (λ e. after-done (effectOf site (recordOf (actor step) records) step .answer) (effect-done site (recordOf (actor step) records) step) step records (effectOf site (recordOf (actor step) records) step .node))
-    (λ number. sym (begun-none (compromisedOf step) (set records (indexOf (actor step) (length records)) (recordOf (actor step) records))) ∙ same-records (actor step) records)
+    by-tests (λ out. firstRecords (beginsOf (out .answer) step) (compromisedOf step) (set records (indexOf (named step .actor) (length records)) (out .node)) ≡ tableAfterAnswer (out .answer) step records (out .node)) site (length records)
+    (recordOf (named step .actor) records) step
+    (λ e. after-done (effectOf site (recordOf (named step .actor) records) step .answer) (effect-done site (recordOf (named step .actor) records) step) step records (effectOf site (recordOf (named step .actor) records) step .node))
+    (λ number. sym (begun-none (compromisedOf step) (set records (indexOf (named step .actor) (length records)) (recordOf (named step .actor) records))) ∙ same-records (named step .actor) records)
 
 -- what is said of an answer, a site and a list once the record is written back
 abbrev pub SaidAt : Site → List Node → ℕ → Step → Answer → Site → List Node → Type 0
 SaidAt site records i step answer next written = (answer ≡ outAt site records i step .answer) × ((next ≡ outAt site records i step .site) × (written ≡ set records i (outAt site records i step .node)))
 
 module _ (site : Site) (records : List Node) (step : Step) (i n : ℕ) (answer : Answer) (next : Site) (written : List Node)
-    (i-is : i ≡ indexOf (actor step) (length records)) (acted : SaidAt site records i step answer next written) (begins : n ≡ beginsOf answer step) where
+    (i-is : i ≡ indexOf (named step .actor) (length records)) (acted : SaidAt site records i step answer next written) (begins : n ≡ beginsOf answer step) where
   same-out : outAt site records i step ≡ outOf site records step
   same-out = ap (λ (j : ℕ). outAt site records j step) i-is ∙ out-at-place site records step
 
@@ -78,7 +72,7 @@ module _ (site : Site) (records : List Node) (step : Step) (i n : ℕ) (answer :
   n-is : n ≡ beginsOf (outOf site records step .answer) step
   n-is = begins ∙ ap (λ (a : Answer). beginsOf a step) same-answer
 
-  written-is : written ≡ set records (indexOf (actor step) (length records)) (outOf site records step .node)
+  written-is : written ≡ set records (indexOf (named step .actor) (length records)) (outOf site records step .node)
   written-is = acted .1 .1 ∙ ap (λ (out : Out). set records i (out .node)) same-out ∙ ap (λ (j : ℕ). set records j (outOf site records step .node)) i-is
 
   -- there are as many records as are to be made

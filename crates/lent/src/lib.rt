@@ -3,7 +3,6 @@
 use node::Node;
 use site::Answer;
 use site::Site;
-use steps::Actor;
 use steps::Step;
 ghost use mathlib.Core.Path.{_≡_};
 ghost use Prim.Native.Nat.{_<_, _≤_};
@@ -11,7 +10,7 @@ ghost use lib.ListN.{length, getD, set};
 ghost use Rattle.events.specs.Events.{wentDown};
 ghost use Rattle.effects.specs.Effects.{firstRecord};
 ghost use Rattle.lent.specs.Lent.{firstRecords, Said, SaidWithin};
-ghost use Rattle.steps.specs.Actor.{actor};
+ghost use Rattle.steps.specs.Named.{named};
 ghost use Rattle.lent.specs.InTurn.{indexOf, startsOf, beginsOf, compromisedOf, outAt};
 
 // What a step says to its caller, beside the table that it leaves.
@@ -29,12 +28,18 @@ fn index(i: u8) -> usize
 
 // Where the record stands that a step takes: past the end where it names no node.
 fn place(step: Step, len: usize) -> usize
-    ensures { λ out. ⌜ out ≡ indexOf (actor step) len ⌝ }
+    ensures { λ out. ⌜ out ≡ indexOf (named step .actor) len ⌝ }
 {
-    let actor = steps::actor_of(step);
-    match actor {
-        Actor::Node(i) => index(i),
-        Actor::Nobody => len,
+    match step {
+        Step::AtNode {
+            node: i,
+            t: _,
+            event: _,
+        } => index(i),
+        Step::Life { node: i, turn: _ } => index(i),
+        Step::Start(_) => len,
+        Step::Tick => len,
+        Step::AtBreaker { t: _, act: _ } => len,
     }
 }
 
@@ -43,13 +48,7 @@ fn starts(step: Step) -> usize
     ensures { λ out. ⌜ out ≡ startsOf step ⌝ }
 {
     match step {
-        Step::Start {
-            f,
-            k,
-            compromised: _,
-            status: _,
-            g: _,
-        } => 2 * (f as usize) + (k as usize) + 1,
+        Step::Start(b) => 2 * (b.f as usize) + (b.k as usize) + 1,
         _ => 0,
     }
 }
@@ -69,13 +68,7 @@ fn compromised_of(step: Step) -> u16
     ensures { λ out. ⌜ out ≡ compromisedOf step ⌝ }
 {
     match step {
-        Step::Start {
-            f: _,
-            k: _,
-            compromised,
-            status: _,
-            g: _,
-        } => compromised,
+        Step::Start(b) => b.compromised,
         _ => 0,
     }
 }

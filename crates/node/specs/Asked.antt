@@ -17,17 +17,17 @@ use Rattle.node.specs.declared.Phase.the-variants.{Down, Starting, Runni
 use Rattle.node.specs.declared.Node.{Node}
 use Rattle.node.specs.State.{attempts}
 
-abbrev phaseDown : Phase → Bool
+abbrev pub phaseDown : Phase → Bool
 phaseDown Down = true
 phaseDown (Starting l) = false
 phaseDown (Running rec) = false
 
-abbrev phaseStarting : Phase → Bool
+abbrev pub phaseStarting : Phase → Bool
 phaseStarting Down = false
 phaseStarting (Starting l) = true
 phaseStarting (Running rec) = false
 
-abbrev phaseRunning : Phase → Bool
+abbrev pub phaseRunning : Phase → Bool
 phaseRunning Down = false
 phaseRunning (Starting l) = false
 phaseRunning (Running rec) = true
@@ -41,30 +41,34 @@ isStarting node = phaseStarting (node .phase)
 abbrev pub isRunning : Node → Bool
 isRunning node = phaseRunning (node .phase)
 
--- what a node knows of the breaker, if anything: b
-abbrev phaseB : Phase → Known
-phaseB Down = No
-phaseB (Starting l) = l .b
-phaseB (Running rec) = Yes (rec .b)
+-- what is known in a phase of the relay, if anything: r
+abbrev pub knownR : Phase → Known
+knownR Down = No
+knownR (Starting l) = l .r
+knownR (Running rec) = Yes (rec .r)
 
-abbrev pub knownB : Node → Known
-knownB node = phaseB (node .phase)
+-- and of the breaker: b
+abbrev pub knownB : Phase → Known
+knownB Down = No
+knownB (Starting l) = l .b
+knownB (Running rec) = Yes (rec .b)
 
 -- "a number is new when none is known since start-up, or when number minus last, wrapping at 32 bits, is 1 to 2,147,483,647"
 abbrev pub newAfter : ℕ → Last → Bool
 newAfter number (Number last) = newer number last
 newAfter number Unknown = true
 
-abbrev phaseNumber : Phase → Last
-phaseNumber Down = Unknown
-phaseNumber (Starting l) = l .number
-phaseNumber (Running rec) = rec .number
+-- the relay's last state number since start-up
+abbrev pub lastNumber : Phase → Last
+lastNumber Down = Unknown
+lastNumber (Starting l) = l .number
+lastNumber (Running rec) = rec .number
 
 abbrev pub isNew : Node → ℕ → Bool
-isNew node number = newAfter number (phaseNumber (node .phase))
+isNew node number = newAfter number (lastNumber (node .phase))
 
 -- "Share timeout. Armed exactly in Attempt."
-abbrev phaseAttempt : Phase → Bool
+abbrev pub phaseAttempt : Phase → Bool
 phaseAttempt Down = false
 phaseAttempt (Starting l) = false
 phaseAttempt (Running rec) = attempts (rec .r) (rec .b)

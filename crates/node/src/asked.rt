@@ -6,12 +6,11 @@ use crate::Record;
 use crate::Resend;
 use pairs::Known;
 use pairs::Pair;
-use time::Dts;
 use time::LAST_HELD;
 ghost use mathlib.Core.Path.{_≡_};
 ghost use Rattle.node.specs.State.{attempts};
 ghost use Rattle.pairs.specs.Pair.{same};
-ghost use Rattle.node.specs.Asked.{isDown, isStarting, isRunning, knownB, isNew, newAfter, inAttempt, armed, knownSound, resendSound, recordSound, learnedSound, nodeSound};
+ghost use Rattle.node.specs.Asked.{isDown, isStarting, isRunning, knownB, isNew, newAfter, inAttempt, armed, knownSound, resendSound, recordSound, nodeSound};
 
 // Done: the relay's status is the breaker's.
 pub fn is_done(r: Pair, b: Pair) -> bool
@@ -60,11 +59,10 @@ pub fn is_running(node: Node) -> bool
     }
 }
 
-// What a node knows of the breaker's status and stamp, if anything.
-pub fn known_b(node: Node) -> Known
-    ensures { λ out. ⌜ out ≡ knownB node ⌝ }
+// What is known in a phase of the breaker's status and stamp, if anything.
+pub fn known_b(phase: Phase) -> Known
+    ensures { λ out. ⌜ out ≡ knownB phase ⌝ }
 {
-    let phase = node.phase;
     match phase {
         Phase::Down => Known::No,
         Phase::Starting(learned) => {

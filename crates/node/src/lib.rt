@@ -46,7 +46,14 @@ pub struct Node {
     pub store: Store,
 }
 
-// What an event made of a node: the record afterwards, and what it sends.
+// What an event makes of a phase, before the combining rule: the phase afterwards, what it shares, and the command that it sends, if it sends one.
+pub struct Changed {
+    pub phase: Phase,
+    pub shares: Pairs,
+    pub command: Known,
+}
+
+// What an event made of a node, at its end: the record afterwards, and what it sends.
 pub struct Acted {
     pub node: Node,
     pub shares: Pairs,

@@ -1,6 +1,6 @@
 -- Laws of tests joined by "and", and of tests that hold together.
 use mathlib.Core.Path.{_≡_, refl, sym}
-use mathlib.Core.Bool.{Bool, true, false, _&&_}
+use mathlib.Core.Bool.{Bool, true, false, _&&_, and-eq-true-iff}
 
 pub and-assoc : (a b c : Bool) → (a && b && c) ≡ (a && (b && c))
 and-assoc true b c = refl
@@ -18,3 +18,10 @@ pub both-ways : (a b : Bool) → (a ≡ true → b ≡ true) → (b ≡ true →
 both-ways true b f g = sym (f refl)
 both-ways false true f g = g refl
 both-ways false false f g = refl
+
+-- what two tests that are passed together say of each
+pub left : (a b : Bool) → (a && b) ≡ true → a ≡ true
+left a b e = and-eq-true-iff a b .0 e .0
+
+pub right : (a b : Bool) → (a && b) ≡ true → b ≡ true
+right a b e = and-eq-true-iff a b .0 e .1

@@ -1,12 +1,11 @@
 -- The tests of a step are a list in document 01's order, each with the number that 01 gives where it fails.
 -- The refusal is the number of the first that fails, and 0, done, where none does.
-use Prim.Native.Nat.{ℕ, zero, suc}
+use Prim.Native.Nat.{ℕ}
 use mathlib.Core.Path.{_≡_, refl, ap}
 use mathlib.Core.Bool.{Bool, true, false, _&&_, cond, false≢true, and-eq-true-iff}
 use mathlib.Core.List.{List, [], _∷_, _++_}
 use native.Mathlib.Omega.{arith}
 use lib.Dec.{eqb, ltb}
-use lib.ListN.{getD}
 use borrow.Author.Tests.{ne-eqb, ltb-true}
 
 -- a number, and whether the test beside it is passed
@@ -53,12 +52,25 @@ done-passed (t ∷ ts) n e = go (t .1) e (done-passed ts (and-eq-true-iff (ltb 0
     go true e ih = ih e
     go false e ih = absurd (not-zero (t .0) (and-eq-true-iff (ltb 0 (t .0)) (numbered ts) .0 n .0) e)
 
--- Where every test is passed, each is.
-pub each-passed : (i : ℕ) (ts : List Test) → passed ts ≡ true → getD ts i (0, true) .1 ≡ true
+-- the test with a number, the first that has it
+abbrev pub testAt : ℕ → List Test → Bool
+testAt k [] = true
+testAt k (t ∷ ts) = cond (eqb (t .0) k) (t .1) (testAt k ts)
+
+-- Where the refusal is 0, the test with any number is passed.
+pub each-passed : (k : ℕ) (ts : List Test) → numbered ts ≡ true → refusal ts ≡ 0 → testAt k ts ≡ true
 unfolding passed
-each-passed i [] h = refl
-each-passed zero (t ∷ ts) h = and-eq-true-iff (t .1) (passed ts) .0 h .0
-each-passed (suc i) (t ∷ ts) h = each-passed i ts (and-eq-true-iff (t .1) (passed ts) .0 h .1)
+each-passed k ts n e = within ts (done-passed ts n e)
+  where
+    within : (ts : List Test) → passed ts ≡ true → testAt k ts ≡ true
+    within [] h = refl
+    within (t ∷ ts) h =
+        let both = and-eq-true-iff (t .1) (passed ts) .0 h in
+        one (eqb (t .0) k) (both .0) (within ts (both .1))
+      where
+        one : (x : Bool) → t .1 ≡ true → testAt k ts ≡ true → cond x (t .1) (testAt k ts) ≡ true
+        one true here later = here
+        one false here later = later
 
 -- Two lists of tests, one after the other.
 pub appended : (ts us : List Test) → numbered ts ≡ true → orLater (refusal ts) (refusal us) ≡ refusal (ts ++ us)

@@ -1,11 +1,11 @@
 -- What an accepted command says: the shares behind it, and its stamp.
 use Prim.Native.Nat.{ℕ, _+_, _≤_, _<_}
 use mathlib.Core.Path.{_≡_, sym, ap, _∙_}
-use mathlib.Core.Bool.{Bool, true, false, _||_}
+use mathlib.Core.Bool.{Bool, true, false, _&&_, _||_}
 use native.Mathlib.Omega.{arith}
 use lib.Dec.{ltb}
 use borrow.Author.Tests.{leb-true, ltb-true}
-use Rattle.refusals.specs.Tests.{passed, each-passed}
+use Rattle.refusals.specs.Bools.{and-true}
 use Rattle.time.specs.declared.Dts.{Dts}
 use Rattle.senders.specs.Sets.{countBelow, count-ext, either, vouched}
 use Rattle.senders.specs.Masks.{isIn, size, room}
@@ -14,7 +14,8 @@ use Rattle.store.specs.Store.{sendersOf}
 use Rattle.store.specs.Held.{held}
 use Rattle.breaker.specs.Breaker.{repeats}
 use Rattle.site.specs.declared.Site.{Site}
-use Rattle.refusing.specs.Tests.{counted, verdict, commandTests}
+use Rattle.steps.specs.Named.{saidByAct}
+use Rattle.refusing.specs.Tests.{counted, verdict, areAbove}
 
 -- "the compromised nodes, together with the correct nodes that have shared (A, T) since Start, number at least f+1": where at most f are
 -- compromised, one of them is a correct node that has shared it
@@ -28,7 +29,9 @@ shared-by-one site A T few says =
     (found .0, found .3, found .2)
 
 -- where it changes the status, its stamp is above the breaker's
-pub stamp-above : (site : Site) (lent : ℕ) (t : Dts) (A : ℕ) (T : Dts) → passed (commandTests site lent t A T) ≡ true → repeats (site .breaker) A ≡ false
+pub stamp-above : (site : Site) (A : ℕ) (T : Dts) → areAbove site (saidByAct (record { status = A; stamp = T })) ≡ true → repeats (site .breaker) A ≡ false
     → site .breaker .pair .stamp .0 < T .0
-stamp-above site lent t A T ok changes =
-    ltb-true _ _ (ap (λ (same : Bool). same || ltb (site .breaker .pair .stamp .0) (T .0)) (sym changes) ∙ each-passed 6 _ ok)
+stamp-above site A T above changes =
+    ltb-true _ _
+    (sym (and-true (ltb (site .breaker .pair .stamp .0) (T .0)))
+    ∙ (ap (λ (same : Bool). same || (ltb (site .breaker .pair .stamp .0) (T .0) && true)) (sym changes) ∙ above))

@@ -1,4 +1,5 @@
--- The tests of each step (Tests), their parts (Parts), and what an accepted command says (CommandLaws).
+-- The table of refusals (Tests), its parts (Parts), and what the tests of an accepted step (Accepted) and command (CommandLaws) say.
 pub mod Tests
 pub mod Parts
+pub mod Accepted
 pub mod CommandLaws

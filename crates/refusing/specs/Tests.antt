@@ -1,7 +1,9 @@
--- The tests of each step, in document 01's order: "16, then 1 for Start, then 2 to 15". The first that fails gives the refusal.
+-- Document 01's table of refusals. One list of rows in the order in which they are checked, "16, then 1 for Start, then 2 to 15", each with the test
+-- that has to be passed; a row that does not speak of a step is passed by it. The first test that fails gives the refusal.
 use Prim.Native.Nat.{ℕ, _+_}
 use mathlib.Core.Bool.{Bool, true, not, _&&_, _||_}
 use mathlib.Core.List.{List, [], _∷_}
+use mathlib.Core.Option.{Option, some, none}
 use lib.Dec.{eqb, leb, ltb}
 use Rattle.refusals.specs.Tests.{Test}
 use Rattle.time.specs.declared.Dts.{Dts}
@@ -9,13 +11,18 @@ use Rattle.time.specs.Fresh.{fresh}
 use Rattle.senders.specs.Masks.{isIn, size, enough, within, together}
 use Rattle.store.specs.Store.{sendersOf}
 use Rattle.store.specs.Held.{held}
+use Rattle.steps.specs.declared.Beginning.{Beginning}
 use Rattle.steps.specs.declared.Step.{Step}
-use Rattle.steps.specs.declared.Step.the-variants.{Start, Tick, Report, Deliver, ShareTimeout, ResendTimeout, Command, Ack, Query, Down, Up}
+use Rattle.steps.specs.Named.{StepKind, tick, report, deliver, shareTimeout, resendTimeout, command, ack, query, down, up, Said, Named, named, isKind, among, ofNamed, ofEach}
 use Rattle.node.specs.declared.Node.{Node}
-use Rattle.node.specs.Asked.{isDown, isStarting, isRunning, isNew, inAttempt, armed}
+use Rattle.node.specs.declared.Phase.{Phase}
+use Rattle.node.specs.declared.Phase.the-variants.{Starting, Running, Down}
+use Rattle.node.specs.Asked.{isNew, inAttempt, armed}
 use Rattle.breaker.specs.Breaker.{repeats}
 use Rattle.site.specs.declared.Site.{Site}
 use Rattle.site.specs.Site.{nodes, n, g, mostF, mostK, firstG, lastStartG, lastG, siteSound, actorSound}
+
+-- ---- what the rows ask
 
 -- "t is neither g nor g+1"
 abbrev pub isNow : Site → Dts → Bool
@@ -39,125 +46,102 @@ verdict site A T = enough (counted site A T) (site .f)
 abbrev pub canDeliver : Site → ℕ → ℕ → Dts → Bool
 canDeliver site sender A T = isIn (site .compromised) sender || held (site .made) A T sender
 
-abbrev pub startTests : ℕ → ℕ → ℕ → ℕ → ℕ → Dts → List Test
-startTests lent f k compromised status g =
-    (1, leb f mostF)
-    ∷ (1, leb k mostK)
-    ∷ (1, isStatus status)
-    ∷ (1, leb firstG (g .0) && leb (g .0) lastStartG)
-    ∷ (1, within compromised (nodes f k))
-    ∷ (1, leb (size compromised) f)
-    ∷ (1, leb (nodes f k) lent)
-    ∷ []
+-- "A starting node takes Report, Ack, Query and Down." A running one takes every step at a node but Query and Up, a down one Up alone.
+abbrev pub phaseTakes : Phase → StepKind → Bool
+phaseTakes Down kind = among kind (up ∷ [])
+phaseTakes (Starting learned) kind = among kind (report ∷ ack ∷ query ∷ down ∷ [])
+phaseTakes (Running rec) kind = among kind (report ∷ deliver ∷ shareTimeout ∷ resendTimeout ∷ ack ∷ down ∷ [])
 
-abbrev pub tickTests : Site → ℕ → List Test
-tickTests site lent = (16, siteSound site lent) ∷ (15, not (eqb (g site .0) lastG)) ∷ []
+-- a node's last accepted clock, 0 where it has none yet
+abbrev pub nodeClock : Node → Dts
+nodeClock node = node .store .clock
 
-abbrev pub reportTests : Site → ℕ → Node → ℕ → Dts → ℕ → ℕ → List Test
-reportTests site lent node i t status number =
-    (16, siteSound site lent && actorSound site node i)
-    ∷ (2, isNode site i && isStatus status)
-    ∷ (3, not (isIn (site .compromised) i))
-    ∷ (4, not (isDown node))
-    ∷ (5, isNow site t)
-    ∷ (6, leb (node .store .clock .0) (t .0))
-    ∷ (9, isNew node number)
-    ∷ []
+-- the last accepted clock of the acting node, or of the breaker where no node acts
+abbrev pub lastClock : Site → Node → Option ℕ → Dts
+lastClock site node (some i) = nodeClock node
+lastClock site node none = site .breaker .clock
 
-abbrev pub deliverTests : Site → ℕ → Node → ℕ → ℕ → Dts → ℕ → Dts → List Test
-deliverTests site lent node sender i t status T =
-    (16, siteSound site lent && actorSound site node i)
-    ∷ (2, isNode site i && (isNode site sender && isStatus status))
-    ∷ (3, not (isIn (site .compromised) i))
-    ∷ (4, isRunning node)
-    ∷ (5, isNow site t)
-    ∷ (6, leb (node .store .clock .0) (t .0))
-    ∷ (7, fresh T t)
-    ∷ (8, canDeliver site sender status T)
-    ∷ []
+abbrev pub unlessStart : Option Beginning → Bool → Bool
+unlessStart (some b) test = true
+unlessStart none test = test
 
-abbrev pub shareTimeoutTests : Site → ℕ → Node → ℕ → Dts → List Test
-shareTimeoutTests site lent node i t =
-    (16, siteSound site lent && actorSound site node i)
-    ∷ (2, isNode site i && true)
-    ∷ (3, not (isIn (site .compromised) i))
-    ∷ (4, isRunning node)
-    ∷ (5, isNow site t)
-    ∷ (6, leb (node .store .clock .0) (t .0))
-    ∷ (12, inAttempt node)
-    ∷ []
+-- ---- the rows
 
-abbrev pub resendTimeoutTests : Site → ℕ → Node → ℕ → Dts → List Test
-resendTimeoutTests site lent node i t =
-    (16, siteSound site lent && actorSound site node i)
-    ∷ (2, isNode site i && true)
-    ∷ (3, not (isIn (site .compromised) i))
-    ∷ (4, isRunning node)
-    ∷ (5, isNow site t)
-    ∷ (6, leb (node .store .clock .0) (t .0))
-    ∷ (12, armed node)
-    ∷ []
+-- 16: "any step but Start: no site started yet; a table shorter than n; a site number outside its range [..]; or the record of the acting node (for
+-- Deliver, the receiver), if that node is below n"
+abbrev pub areSound : Site → ℕ → Node → Named → Bool
+areSound site lent node the = unlessStart (the .beginning) (siteSound site lent && ofNamed (the .actor) (actorSound site node))
 
--- "10 is not given by Command from then on, and 11 only for a command that would change the status" (§4 of 02)
-abbrev pub commandTests : Site → ℕ → Dts → ℕ → Dts → List Test
-commandTests site lent t status T =
-    (16, siteSound site lent)
-    ∷ (2, isStatus status)
-    ∷ (5, isNow site t)
-    ∷ (6, leb (site .breaker .clock .0) (t .0))
-    ∷ (7, fresh T t)
-    ∷ (8, verdict site status T)
-    ∷ (11, repeats (site .breaker) status || ltb (site .breaker .pair .stamp .0) (T .0))
-    ∷ []
+-- 1: "Start: f, k, status or g out of range, a compromised number not below n, more than f compromised, table shorter than n". (The row's other
+-- half, a bad interval, is discretising's.)
+abbrev pub canBegin : ℕ → Beginning → Bool
+canBegin lent b =
+    leb (b .f) mostF
+    && leb (b .k) mostK
+    && isStatus (b .status)
+    && (leb firstG (b .g .0) && leb (b .g .0) lastStartG)
+    && within (b .compromised) (nodes (b .f) (b .k))
+    && leb (size (b .compromised)) (b .f)
+    && leb (nodes (b .f) (b .k)) lent
 
-abbrev pub ackTests : Site → ℕ → Node → ℕ → Dts → ℕ → List Test
-ackTests site lent node i t back =
-    (16, siteSound site lent && actorSound site node i)
-    ∷ (2, isNode site i && leb back 7)
-    ∷ (3, not (isIn (site .compromised) i))
-    ∷ (4, not (isDown node))
-    ∷ (5, isNow site t)
-    ∷ (6, leb (node .store .clock .0) (t .0))
-    ∷ (13, leb (back + 1) (site .breaker .changes .count))
-    ∷ []
+-- 2: "node or sender ≥ n, status above 1, back above 7"
+abbrev pub areInRange : Site → Said → Bool
+areInRange site said = ofNamed (said .sender) (isNode site) && (ofNamed (said .status) isStatus && ofNamed (said .back) (λ back. leb back 7))
 
-abbrev pub queryTests : Site → ℕ → Node → ℕ → Dts → List Test
-queryTests site lent node i t =
-    (16, siteSound site lent && actorSound site node i)
-    ∷ (2, isNode site i && true)
-    ∷ (3, not (isIn (site .compromised) i))
-    ∷ (4, isStarting node)
-    ∷ (5, isNow site t)
-    ∷ (6, leb (node .store .clock .0) (t .0))
-    ∷ []
+-- 7: "T not fresh at t"
+abbrev pub areFresh : Option Dts → Said → Bool
+areFresh clock said = ofNamed clock λ t. ofEach (said .stamps) λ T. fresh T t
 
-abbrev pub downTests : Site → ℕ → Node → ℕ → List Test
-downTests site lent node i =
-    (16, siteSound site lent && actorSound site node i)
-    ∷ (2, isNode site i && true)
-    ∷ (3, not (isIn (site .compromised) i))
-    ∷ (4, not (isDown node))
-    ∷ (14, ltb (size (site .down)) (site .k))
-    ∷ []
+-- 8: "share not made by its correct sender; for Command, verdict no"
+abbrev pub areVouchedFor : Site → Said → Bool
+areVouchedFor site said =
+    ofNamed (said .sender) (λ i. ofNamed (said .status) λ A. ofEach (said .stamps) (canDeliver site i A))
+    && (not (isKind (said .kind) command) || ofNamed (said .status) λ A. ofEach (said .stamps) (verdict site A))
 
-abbrev pub upTests : Site → ℕ → Node → ℕ → List Test
-upTests site lent node i =
-    (16, siteSound site lent && actorSound site node i)
-    ∷ (2, isNode site i && true)
-    ∷ (3, not (isIn (site .compromised) i))
-    ∷ (4, isDown node)
+-- 11: "T ≤ breaker's stamp", and "only for a command that would change the status"; "10 is not given by Command from then on" (§4 of 02), and it was no
+-- other step's
+abbrev pub areAbove : Site → Said → Bool
+areAbove site said =
+    not (isKind (said .kind) command)
+    || (ofNamed (said .status) λ A. repeats (site .breaker) A || ofEach (said .stamps) λ T. ltb (site .breaker .pair .stamp .0) (T .0))
+
+-- 12: "timeout not armed"
+abbrev pub isTimeoutArmed : Node → StepKind → Bool
+isTimeoutArmed node kind = (not (isKind kind shareTimeout) || inAttempt node) && (not (isKind kind resendTimeout) || armed node)
+
+-- 13: "fewer changes than `back` + 1"
+abbrev pub areRemembered : Site → Said → Bool
+areRemembered site said = ofNamed (said .back) λ back. leb (back + 1) (site .breaker .changes .count)
+
+-- 14: "Down: already k correct nodes down, by the site's own count"
+abbrev pub mayGoDown : Site → StepKind → Bool
+mayGoDown site kind = not (isKind kind down) || ltb (size (site .down)) (site .k)
+
+-- 15: "Tick when g is 1,000,000,000"
+abbrev pub mayTick : Site → StepKind → Bool
+mayTick site kind = not (isKind kind tick) || not (eqb (g site .0) lastG)
+
+-- The table: 3 is "the acting node (for Deliver, the receiver) is compromised", 4 "the node's phase does not take this step (Down of a down node, Up of
+-- another)", 5 "t is neither g nor g+1", 6 "t is below that node's, or the breaker's, last accepted clock since it started", 9 "report not new".
+abbrev pub tableFor : Site → ℕ → Node → Named → List Test
+tableFor site lent node the =
+    (16, areSound site lent node the)
+    ∷ (1, ofNamed (the .beginning) (canBegin lent))
+    ∷ (2, ofNamed (the .actor) (isNode site) && areInRange site (the .said))
+    ∷ (3, ofNamed (the .actor) λ i. not (isIn (site .compromised) i))
+    ∷ (4, ofNamed (the .actor) λ i. phaseTakes (node .phase) (the .said .kind))
+    ∷ (5, ofNamed (the .clock) (isNow site))
+    ∷ (6, ofNamed (the .clock) λ t. leb (lastClock site node (the .actor) .0) (t .0))
+    ∷ (7, areFresh (the .clock) (the .said))
+    ∷ (8, areVouchedFor site (the .said))
+    ∷ (9, ofNamed (the .said .number) (isNew node))
+    ∷ (11, areAbove site (the .said))
+    ∷ (12, isTimeoutArmed node (the .said .kind))
+    ∷ (13, areRemembered site (the .said))
+    ∷ (14, mayGoDown site (the .said .kind))
+    ∷ (15, mayTick site (the .said .kind))
     ∷ []
 
 -- the tests of a step, for a site, a number of lent records and the record of the acting node
 unfoldable pub testsOf : Site → ℕ → Node → Step → List Test
-testsOf site lent node (Start f k compromised status g) = startTests lent f k compromised status g
-testsOf site lent node Tick = tickTests site lent
-testsOf site lent node (Report i t status number) = reportTests site lent node i t status number
-testsOf site lent node (Deliver sender i t status T) = deliverTests site lent node sender i t status T
-testsOf site lent node (ShareTimeout i t) = shareTimeoutTests site lent node i t
-testsOf site lent node (ResendTimeout i t) = resendTimeoutTests site lent node i t
-testsOf site lent node (Command t status T) = commandTests site lent t status T
-testsOf site lent node (Ack i t back) = ackTests site lent node i t back
-testsOf site lent node (Query i t) = queryTests site lent node i t
-testsOf site lent node (Down i) = downTests site lent node i
-testsOf site lent node (Up i) = upTests site lent node i
+testsOf site lent node step = tableFor site lent node (named step)

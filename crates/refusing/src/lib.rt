@@ -1,5 +1,11 @@
 // The refusal of each step: the number of the first test that fails, and 0 where none does.
 use node::Node;
+use node::asked::is_armed;
+use node::asked::is_down;
+use node::asked::is_in_attempt;
+use node::asked::is_new;
+use node::asked::is_running;
+use node::asked::is_starting;
 use refusals::first;
 use refusals::test;
 use site::FIRST_G;
@@ -11,16 +17,25 @@ use site::Site;
 use site::sound::is_actor_sound;
 use site::sound::is_site_sound;
 use site::sound::nodes;
+use steps::Act;
+use steps::Beginning;
+use steps::Event;
 use steps::Step;
+use steps::Turn;
 use time::Dts;
 ghost use mathlib.Core.Path.{_≡_};
-ghost use mathlib.Core.Bool.{not};
-ghost use mathlib.Core.List.{[], _∷_, _++_};
-ghost use lib.Dec.{eqb};
+ghost use mathlib.Core.List.{[], _∷_};
 ghost use Rattle.refusals.specs.Tests.{refusal};
-ghost use Rattle.site.specs.Site.{g, lastG, siteSound};
-ghost use Rattle.refusing.specs.Tests.{isNow, isNode, verdict, canDeliver, startTests, testsOf};
-ghost use Rattle.refusing.specs.Parts.{whoTests, whenTests, commandFirst, commandLast, soundTests};
+ghost use Rattle.site.specs.Site.{siteSound};
+ghost use Rattle.refusing.specs.Tests.{isNow, isNode, verdict, canDeliver, canBegin, testsOf};
+ghost use Rattle.refusing.specs.Parts.{whoTests, whenTests, shareTests, asked, commandFirst, commandLast, actTests, soundTests};
+
+// What is asked of one event: 2 of its fields, 4 of the node's phase, and the refusal of its own tests.
+struct Asked {
+    fields: bool,
+    phase: bool,
+    own: u8,
+}
 
 fn is_now(site: Site, t: Dts) -> bool
     ensures { λ out. ⌜ out ≡ isNow site t ⌝ }
@@ -79,86 +94,107 @@ fn when(site: Site, node: Node, t: Dts) -> u8
     first(a, b)
 }
 
-fn refuse_report(site: Site, node: Node, i: u8, t: Dts, status: u8, number: u32) -> u8
-    ensures { λ out. ⌜ out ≡ refusal (soundTests site node (Step.Report i t status number)) ⌝ }
+// Tests 7 and 8 of a share that is delivered.
+fn share(site: Site, t: Dts, sender: u8, status: u8, stamp: Dts) -> u8
+    ensures { λ out. ⌜ out ≡ refusal (shareTests site t sender status stamp) ⌝ }
 {
-    let down = node::asked::is_down(node);
-    let new = node::asked::is_new(node, number);
-    let a = who(site, node, i, status <= 1, !down);
-    let b = when(site, node, t);
-    let c = test(9, new);
-    first(a, first(b, c))
-}
-
-fn refuse_deliver(site: Site, node: Node, sender: u8, i: u8, t: Dts, status: u8, stamp: Dts) -> u8
-    ensures { λ out. ⌜ out ≡ refusal (soundTests site node (Step.Deliver sender i t status stamp)) ⌝ }
-{
-    let running = node::asked::is_running(node);
-    let known = is_node(site, sender);
     let fresh = time::is_fresh(stamp, t);
     let made = can_deliver(site, sender, status, stamp);
-    let a = who(site, node, i, known & (status <= 1), running);
-    let b = when(site, node, t);
-    let c = test(7, fresh);
-    let d = test(8, made);
-    first(a, first(b, first(c, d)))
-}
-
-fn refuse_share_timeout(site: Site, node: Node, i: u8, t: Dts) -> u8
-    ensures { λ out. ⌜ out ≡ refusal (soundTests site node (Step.ShareTimeout i t)) ⌝ }
-{
-    let running = node::asked::is_running(node);
-    let armed = node::asked::is_in_attempt(node);
-    let a = who(site, node, i, true, running);
-    let b = when(site, node, t);
-    let c = test(12, armed);
-    first(a, first(b, c))
-}
-
-fn refuse_resend_timeout(site: Site, node: Node, i: u8, t: Dts) -> u8
-    ensures { λ out. ⌜ out ≡ refusal (soundTests site node (Step.ResendTimeout i t)) ⌝ }
-{
-    let running = node::asked::is_running(node);
-    let armed = node::asked::is_armed(node);
-    let a = who(site, node, i, true, running);
-    let b = when(site, node, t);
-    let c = test(12, armed);
-    first(a, first(b, c))
-}
-
-fn refuse_ack(site: Site, node: Node, i: u8, t: Dts, back: u8) -> u8
-    ensures { λ out. ⌜ out ≡ refusal (soundTests site node (Step.Ack i t back)) ⌝ }
-{
-    let down = node::asked::is_down(node);
-    let a = who(site, node, i, back <= 7, !down);
-    let b = when(site, node, t);
-    let c = test(13, back as u32 + 1 <= site.breaker.changes.count as u32);
-    first(a, first(b, c))
-}
-
-fn refuse_query(site: Site, node: Node, i: u8, t: Dts) -> u8
-    ensures { λ out. ⌜ out ≡ refusal (soundTests site node (Step.Query i t)) ⌝ }
-{
-    let starting = node::asked::is_starting(node);
-    let a = who(site, node, i, true, starting);
-    let b = when(site, node, t);
+    let a = test(7, fresh);
+    let b = test(8, made);
     first(a, b)
 }
 
-fn refuse_down(site: Site, node: Node, i: u8) -> u8
-    ensures { λ out. ⌜ out ≡ refusal (soundTests site node (Step.Down i)) ⌝ }
+// What is asked of one event alone.
+fn ask(site: Site, node: Node, t: Dts, event: Event) -> Asked
+    ensures { λ out. ⌜ out ≡ asked site node t event ⌝ }
 {
-    let down = node::asked::is_down(node);
-    let a = who(site, node, i, true, !down);
-    let b = test(14, senders::how_many(site.down) < site.k as u32);
-    first(a, b)
+    match event {
+        Event::Report { status, number } => {
+            let down = is_down(node);
+            let new = is_new(node, number);
+            let own = test(9, new);
+            Asked {
+                fields: status <= 1,
+                phase: !down,
+                own,
+            }
+        }
+        Event::Deliver {
+            sender,
+            status,
+            stamp,
+        } => {
+            let known = is_node(site, sender);
+            let phase = is_running(node);
+            let own = share(site, t, sender, status, stamp);
+            Asked {
+                fields: known & (status <= 1),
+                phase,
+                own,
+            }
+        }
+        Event::ShareTimeout => {
+            let phase = is_running(node);
+            let attempts = is_in_attempt(node);
+            let own = test(12, attempts);
+            Asked {
+                fields: true,
+                phase,
+                own,
+            }
+        }
+        Event::ResendTimeout => {
+            let phase = is_running(node);
+            let armed = is_armed(node);
+            let own = test(12, armed);
+            Asked {
+                fields: true,
+                phase,
+                own,
+            }
+        }
+        Event::Ack { back } => {
+            let down = is_down(node);
+            let own = test(13, back as u32 + 1 <= site.breaker.changes.count as u32);
+            Asked {
+                fields: back <= 7,
+                phase: !down,
+                own,
+            }
+        }
+        Event::Query => {
+            let phase = is_starting(node);
+            Asked {
+                fields: true,
+                phase,
+                own: 0,
+            }
+        }
+    }
 }
 
-fn refuse_up(site: Site, node: Node, i: u8) -> u8
-    ensures { λ out. ⌜ out ≡ refusal (soundTests site node (Step.Up i)) ⌝ }
+fn refuse_event(site: Site, node: Node, i: u8, t: Dts, event: Event) -> u8
+    ensures { λ out. ⌜ out ≡ refusal (soundTests site node (Step.AtNode i t event)) ⌝ }
 {
-    let down = node::asked::is_down(node);
-    who(site, node, i, true, down)
+    let asked = ask(site, node, t, event);
+    let a = who(site, node, i, asked.fields, asked.phase);
+    let b = when(site, node, t);
+    first(a, first(b, asked.own))
+}
+
+fn refuse_turn(site: Site, node: Node, i: u8, turn: Turn) -> u8
+    ensures { λ out. ⌜ out ≡ refusal (soundTests site node (Step.Life i turn)) ⌝ }
+{
+    let down = is_down(node);
+    match turn {
+        Turn::Down => {
+            let a = who(site, node, i, true, !down);
+            let b = test(14, senders::how_many(site.down) < site.k as u32);
+            first(a, b)
+        }
+        Turn::Up => who(site, node, i, true, down),
+    }
 }
 
 // Tests 2, 5 and 6 of a command.
@@ -185,18 +221,12 @@ fn command_last(site: Site, t: Dts, status: u8, stamp: Dts) -> u8
     first(a, first(b, c))
 }
 
-fn refuse_command(site: Site, t: Dts, status: u8, stamp: Dts) -> u8
-    ensures { λ out. ⌜ out ≡ refusal (commandFirst site t status ++ commandLast site t status stamp) ⌝ }
+fn refuse_act(site: Site, t: Dts, act: Act) -> u8
+    ensures { λ out. ⌜ out ≡ refusal (actTests site t act) ⌝ }
 {
-    let a = command_first(site, t, status);
-    let b = command_last(site, t, status, stamp);
+    let a = command_first(site, t, act.status);
+    let b = command_last(site, t, act.status, act.stamp);
     first(a, b)
-}
-
-fn refuse_tick(site: Site) -> u8
-    ensures { λ out. ⌜ out ≡ refusal ((15, not (eqb (g site .0) lastG)) ∷ []) ⌝ }
-{
-    test(15, site.made.clock.0 != LAST_G)
 }
 
 // The tests of a step after those of the site. A Start has none of these.
@@ -204,34 +234,11 @@ fn refuse_sound(site: Site, node: Node, step: Step) -> u8
     ensures { λ out. ⌜ out ≡ refusal (soundTests site node step) ⌝ }
 {
     match step {
-        Step::Start {
-            f: _,
-            k: _,
-            compromised: _,
-            status: _,
-            g: _,
-        } => 0,
-        Step::Tick => refuse_tick(site),
-        Step::Report {
-            node: i,
-            t,
-            status,
-            number,
-        } => refuse_report(site, node, i, t, status, number),
-        Step::Deliver {
-            sender,
-            receiver,
-            t,
-            status,
-            stamp,
-        } => refuse_deliver(site, node, sender, receiver, t, status, stamp),
-        Step::ShareTimeout { node: i, t } => refuse_share_timeout(site, node, i, t),
-        Step::ResendTimeout { node: i, t } => refuse_resend_timeout(site, node, i, t),
-        Step::Command { t, status, stamp } => refuse_command(site, t, status, stamp),
-        Step::Ack { node: i, t, back } => refuse_ack(site, node, i, t, back),
-        Step::Query { node: i, t } => refuse_query(site, node, i, t),
-        Step::Down { node: i } => refuse_down(site, node, i),
-        Step::Up { node: i } => refuse_up(site, node, i),
+        Step::Start(_) => 0,
+        Step::Tick => test(15, site.made.clock.0 != LAST_G),
+        Step::AtNode { node: i, t, event } => refuse_event(site, node, i, t, event),
+        Step::Life { node: i, turn } => refuse_turn(site, node, i, turn),
+        Step::AtBreaker { t, act } => refuse_act(site, t, act),
     }
 }
 
@@ -245,12 +252,16 @@ fn refuse_other(site: Site, lent: usize, node: Node, step: Step) -> u8
     16
 }
 
-fn refuse_start(lent: usize, f: u8, k: u8, compromised: u16, status: u8, g: Dts) -> u8
-    ensures { λ out. ⌜ out ≡ refusal (startTests lent f k compromised status g) ⌝ }
+fn refuse_start(lent: usize, beginning: Beginning) -> u8
+    ensures { λ out. ⌜ out ≡ refusal ((1, canBegin lent beginning) ∷ []) ⌝ }
 {
+    let f = beginning.f;
+    let k = beginning.k;
+    let g = beginning.g;
+    let compromised = beginning.compromised;
     let n = nodes(f, k);
     let clock = (FIRST_G <= g.0) & (g.0 <= LAST_START_G);
-    let numbers = (f <= MOST_F) & (k <= MOST_K) & (status <= 1) & clock;
+    let numbers = (f <= MOST_F) & (k <= MOST_K) & (beginning.status <= 1) & clock;
     let below = senders::is_within(compromised, n);
     let few = senders::how_many(compromised) <= f as u32;
     test(1, numbers & below & few & (n as usize <= lent))
@@ -261,13 +272,7 @@ pub fn refuse(site: Site, lent: usize, node: Node, step: Step) -> u8
     ensures { λ out. ⌜ out ≡ refusal (testsOf site lent node step) ⌝ }
 {
     match step {
-        Step::Start {
-            f,
-            k,
-            compromised,
-            status,
-            g,
-        } => refuse_start(lent, f, k, compromised, status, g),
+        Step::Start(beginning) => refuse_start(lent, beginning),
         _ => refuse_other(site, lent, node, step),
     }
 }

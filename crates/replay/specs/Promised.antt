@@ -7,8 +7,9 @@ use mathlib.Core.Option.{some}
 use lib.ListN.{length}
 use Rattle.time.specs.declared.Dts.{Dts}
 use Rattle.steps.specs.declared.Step.{Step}
-use Rattle.steps.specs.declared.Step.the-variants.{Command}
-use Rattle.rows.specs.Named.{Beginning}
+use Rattle.steps.specs.declared.Beginning.{Beginning}
+use Rattle.steps.specs.declared.Act.{Act}
+use Rattle.steps.specs.declared.Step.the-variants.{AtBreaker}
 use Rattle.run.specs.declared.Run.{Run}
 use Rattle.run.specs.declared.Ran.{Ran}
 use Rattle.run.specs.Turns.{firstRun}
@@ -40,7 +41,7 @@ one-more-block h run r log last before after ran block =
 -- So of every run:
 pub record Promised (h : List Entry) (run : Run) : Type 0 where
   -- a command, and so a change, is accepted only after an accepted Start,
-  pub started-first : (t : Dts) (A : ℕ) (T : Dts) → Accepts (momentOf run) (Command t A T) → (b : Beginning) × (lastStart h ≡ some b)
+  pub started-first : (t : Dts) (command : Act) → Accepts (momentOf run) (AtBreaker t command) → (b : Beginning) × (lastStart h ≡ some b)
   -- and, counted from the last one, the demand's four parts hold
   pub few : (b : Beginning) → lastStart h ≡ some b → AtMostF h (momentOf run) b
   pub status : (b : Beginning) → lastStart h ≡ some b → StatusAsTold h (momentOf run) b

@@ -1,5 +1,5 @@
 -- Document 01's table of refusals: the condition of each row, and the order in which the rows are checked.
--- `Of (named step .clock) λ t. C` reads "the step names a clock t, and C". `×` is "and", `⊎` is "or", `→ ⊥` is "not".
+-- `Of (named step .clock) λ t. C` reads "the step names a clock t, and C", `OneOf` the same of one of some. `×` is "and", `⊎` is "or", `→ ⊥` is "not".
 use Prim.Native.Nat.{ℕ, _+_, _≤_, _<_}
 use mathlib.Core.Path.{_≡_}
 use mathlib.Core.Bool.{true, false}
@@ -7,27 +7,94 @@ use mathlib.Core.Logic.{_⊎_}
 use mathlib.Core.List.{List, [], _∷_}
 use mathlib.Core.Option.{Option, some, none}
 use Rattle.time.specs.declared.Dts.{Dts}
+use Rattle.time.specs.Newer.{ahead}
 use Rattle.senders.specs.Masks.{isIn, size}
-use Rattle.store.specs.Store.{storeWithin}
+use Rattle.store.specs.declared.Store.{Store}
+use Rattle.store.specs.Store.{places, setAt}
 use Rattle.store.specs.Held.{held}
+use Rattle.pairs.specs.declared.Pair.{Pair}
+use Rattle.pairs.specs.declared.Known.{Known}
+use Rattle.pairs.specs.declared.Known.the-variants.{Yes, No}
+use Rattle.steps.specs.declared.Beginning.{Beginning}
 use Rattle.steps.specs.declared.Step.{Step}
+use Rattle.steps.specs.Named.{tick, shareTimeout, resendTimeout, command, down, Said, named, Of, OneOf}
+use Rattle.node.specs.declared.Last.{Last}
+use Rattle.node.specs.declared.Last.the-variants.{Number, Unknown}
+use Rattle.node.specs.declared.Resend.{Resend}
+use Rattle.node.specs.declared.Resend.the-variants.{Armed, Off}
+use Rattle.node.specs.declared.Phase.{Phase}
+use Rattle.node.specs.declared.Phase.the-variants.{Starting, Running, Down as NotUp}
 use Rattle.node.specs.declared.Node.{Node}
-use Rattle.node.specs.Asked.{isNew, inAttempt, armed, nodeSound}
-use Rattle.breaker.specs.Breaker.{changesSound}
+use Rattle.node.specs.Asked.{lastNumber}
+use Rattle.breaker.specs.declared.Changes.{Changes}
+use Rattle.breaker.specs.Breaker.{pairAt}
 use Rattle.site.specs.declared.Site.{Site}
 use Rattle.site.specs.Site.{nodes, n, g}
-use Rattle.refusing.specs.Tests.{counted}
+use Rattle.refusing.specs.Tests.{counted, phaseTakes, nodeClock, lastClock}
 use Rattle.rows.specs.Exactly.{Row}
-use Rattle.rows.specs.Named.{start, tick, shareTimeout, resendTimeout, command, down, named, Of, phaseTakes}
 use Rattle.rows.specs.Outsiders.{Outsider}
 
--- the last accepted clock of the acting node, or of the breaker where no node acts
-abbrev pub lastClock : Site → Node → Option ℕ → Dts
-lastClock site node (some i) = node .store .clock
-lastClock site node none = site .breaker .clock
+-- ---- 16, of what stands in a site and in a record
+
+-- a stamp or clock above 1,000,000,003
+abbrev pub TooLate : Dts → Type 0
+TooLate T = 1_000_000_003 < T .0
+
+abbrev pub KnownTooLate : Known → Type 0
+KnownTooLate (Yes p) = TooLate (p .stamp)
+KnownTooLate No = ⊥
+
+abbrev pub ResendTooLate : Resend → Type 0
+ResendTooLate (Armed T) = TooLate T
+ResendTooLate Off = ⊥
+
+-- a sender not below n, at one of the store's places
+abbrev pub SenderOutside : Store → ℕ → Type 0
+SenderOutside store n = (k : ℕ) × (k < places) × Outsider (setAt store k) n
+
+-- more than eight changes, or one of the eight places has a status above 1 or a stamp too late
+abbrev pub PairOutOfRange : Pair → Type 0
+PairOutOfRange p = (1 < p .status) ⊎ TooLate (p .stamp)
+
+abbrev pub ChangesOutOfRange : Changes → Type 0
+ChangesOutOfRange changes = (8 < changes .count) ⊎ ((k : ℕ) × (k < 8) × PairOutOfRange (pairAt changes k))
+
+-- what a starting node has learned, or a running one knows
+abbrev pub PhaseTooLate : Phase → Type 0
+PhaseTooLate NotUp = ⊥
+PhaseTooLate (Starting l) = KnownTooLate (l .r) ⊎ KnownTooLate (l .b)
+PhaseTooLate (Running rec) = TooLate (rec .r .stamp) ⊎ TooLate (rec .b .stamp) ⊎ ResendTooLate (rec .resend)
+
+-- "any step but Start"
+abbrev pub NoStart : Option Beginning → Type 0
+NoStart (some b) = ⊥
+NoStart none = Unit {0}
+
+-- ---- 9 and 12, of a node's phase
+
+-- "a number is new when none is known since start-up, or when number minus last, wrapping at 32 bits, is 1 to 2,147,483,647"
+abbrev pub NotNewAfter : ℕ → Last → Type 0
+NotNewAfter number (Number last) = (ahead number last ≡ 0) ⊎ (2_147_483_647 < ahead number last)
+NotNewAfter number Unknown = ⊥
+
+-- "Armed exactly in Attempt": the statuses differ, and r's stamp is no older than b's
+abbrev pub NotInAttempt : Phase → Type 0
+NotInAttempt NotUp = Unit {0}
+NotInAttempt (Starting l) = Unit {0}
+NotInAttempt (Running rec) = (rec .r .status ≡ rec .b .status) ⊎ (rec .r .stamp .0 < rec .b .stamp .0)
+
+-- "Armed after a command was sent": no stamp is being resent
+abbrev pub NoStampResent : Phase → Type 0
+NoStampResent NotUp = Unit {0}
+NoStampResent (Starting l) = Unit {0}
+NoStampResent (Running rec) = rec .resend ≡ Off
 
 -- for a site, the number of records that are lent, the record of the acting node, and a step
 module _ (site : Site) (lent : ℕ) (node : Node) (step : Step) where
+  -- what it says beside its node, its clock and what Start gives
+  abbrev said : Said
+  said = named step .said
+
   -- 1: "Start: f, k, status or g out of range, a compromised number not below n, more than f compromised, table shorter than n". (The row's other
   -- half, a bad interval, is discretising's.)
   abbrev pub StartOutOfRange : Type 0
@@ -46,9 +113,9 @@ module _ (site : Site) (lent : ℕ) (node : Node) (step : Step) where
   abbrev pub OutsideItsRange : Type 0
   OutsideItsRange =
       Of (named step .actor) (λ i. n site ≤ i)
-      ⊎ Of (named step .sender) (λ i. n site ≤ i)
-      ⊎ Of (named step .status) (λ A. 1 < A)
-      ⊎ Of (named step .back) (λ back. 7 < back)
+      ⊎ Of (said .sender) (λ i. n site ≤ i)
+      ⊎ Of (said .status) (λ A. 1 < A)
+      ⊎ Of (said .back) (λ back. 7 < back)
 
   -- 3: "the acting node (for Deliver, the receiver) is compromised"
   abbrev pub ActorCompromised : Type 0
@@ -56,7 +123,7 @@ module _ (site : Site) (lent : ℕ) (node : Node) (step : Step) where
 
   -- 4: "the node's phase does not take this step (Down of a down node, Up of another)"
   abbrev pub PhaseDoesNotTake : Type 0
-  PhaseDoesNotTake = Of (named step .actor) λ i. phaseTakes (node .phase) (named step .kind) ≡ false
+  PhaseDoesNotTake = Of (named step .actor) λ i. phaseTakes (node .phase) (said .kind) ≡ false
 
   -- 5: "t is neither g nor g+1"
   abbrev pub NeitherNowNorNext : Type 0
@@ -68,49 +135,49 @@ module _ (site : Site) (lent : ℕ) (node : Node) (step : Step) where
 
   -- 7: "T not fresh at t"
   abbrev pub NotFresh : Type 0
-  NotFresh = Of (named step .clock) λ t. Of (named step .stamp) λ T. (T .0 + 2 < t .0) ⊎ (t .0 + 2 < T .0)
+  NotFresh = Of (named step .clock) λ t. OneOf (said .stamps) λ T. (T .0 + 2 < t .0) ⊎ (t .0 + 2 < T .0)
 
   -- 8: "share not made by its correct sender; for Command, verdict no"
   abbrev pub ShareNotMade : Type 0
   ShareNotMade =
-      Of (named step .sender) λ i. Of (named step .status) λ A. Of (named step .stamp) λ T.
+      Of (said .sender) λ i. Of (said .status) λ A. OneOf (said .stamps) λ T.
       (isIn (site .compromised) i ≡ false) × (held (site .made) A T i ≡ false)
 
   abbrev pub VerdictNo : Type 0
   VerdictNo =
-      (named step .kind ≡ command) × Of (named step .status) λ A. Of (named step .stamp) λ T. size (counted site A T) < site .f + 1
+      (said .kind ≡ command) × Of (said .status) λ A. OneOf (said .stamps) λ T. size (counted site A T) < site .f + 1
 
   abbrev pub NotVouchedFor : Type 0
   NotVouchedFor = ShareNotMade ⊎ VerdictNo
 
   -- 9: "report not new"
   abbrev pub ReportNotNew : Type 0
-  ReportNotNew = Of (named step .number) λ number. isNew node number ≡ false
+  ReportNotNew = Of (said .number) λ number. NotNewAfter number (lastNumber (node .phase))
 
   -- 10 is no step's: "10 is not given by Command from then on" (§4 of 02), and 01 gave it to no other.
 
   -- 11: "T ≤ breaker's stamp", and "only for a command that would change the status" (§4 of 02)
   abbrev pub StampNotAbove : Type 0
   StampNotAbove =
-      (named step .kind ≡ command)
-      × Of (named step .status) λ A. (A ≡ site .breaker .pair .status → ⊥) × Of (named step .stamp) λ T. T .0 ≤ site .breaker .pair .stamp .0
+      (said .kind ≡ command)
+      × Of (said .status) λ A. (A ≡ site .breaker .pair .status → ⊥) × OneOf (said .stamps) λ T. T .0 ≤ site .breaker .pair .stamp .0
 
   -- 12: "timeout not armed"
   abbrev pub NotArmed : Type 0
   NotArmed =
-      ((named step .kind ≡ shareTimeout) × (inAttempt node ≡ false)) ⊎ ((named step .kind ≡ resendTimeout) × (armed node ≡ false))
+      ((said .kind ≡ shareTimeout) × NotInAttempt (node .phase)) ⊎ ((said .kind ≡ resendTimeout) × NoStampResent (node .phase))
 
   -- 13: "fewer changes than `back` + 1"
   abbrev pub TooFewChanges : Type 0
-  TooFewChanges = Of (named step .back) λ back. site .breaker .changes .count < back + 1
+  TooFewChanges = Of (said .back) λ back. site .breaker .changes .count < back + 1
 
   -- 14: "Down: already k correct nodes down, by the site's own count"
   abbrev pub EnoughDown : Type 0
-  EnoughDown = (named step .kind ≡ down) × (site .k ≤ size (site .down))
+  EnoughDown = (said .kind ≡ down) × (site .k ≤ size (site .down))
 
   -- 15: "Tick when g is 1,000,000,000". (The row's other half is discretising's.)
   abbrev pub TickAtTheLast : Type 0
-  TickAtTheLast = (named step .kind ≡ tick) × (g site .0 ≡ 1_000_000_000)
+  TickAtTheLast = (said .kind ≡ tick) × (g site .0 ≡ 1_000_000_000)
 
   -- 16: "no site started yet; a table shorter than n; a site number outside its range (f, k, n and status as above; g 2 to 1,000,000,000; at most
   -- eight changes; stamps and clock to 1,000,000,003; sets within n, at most f compromised)"
@@ -125,20 +192,21 @@ module _ (site : Site) (lent : ℕ) (node : Node) (step : Step) where
       ⊎ Outsider (site .compromised) (n site)
       ⊎ (site .f < size (site .compromised))
       ⊎ Outsider (site .down) (n site)
-      ⊎ (storeWithin (site .made) (n site) ≡ false)
-      ⊎ (1 < site .breaker .pair .status)
-      ⊎ (1_000_000_003 < site .breaker .pair .stamp .0)
-      ⊎ (1_000_000_003 < site .breaker .clock .0)
-      ⊎ (changesSound (site .breaker .changes) ≡ false)
+      ⊎ SenderOutside (site .made) (n site)
+      ⊎ PairOutOfRange (site .breaker .pair)
+      ⊎ TooLate (site .breaker .clock)
+      ⊎ ChangesOutOfRange (site .breaker .changes)
 
   -- "the record of the acting node (for Deliver, the receiver), if that node is below n, holds a stamp or clock above 1,000,000,003 or a sender not
   -- below n"
   abbrev pub RecordOutOfRange : Type 0
-  RecordOutOfRange = Of (named step .actor) λ i. (i < n site) × (nodeSound node (n site) ≡ false)
+  RecordOutOfRange =
+      Of (named step .actor) λ i.
+      (i < n site) × (TooLate (nodeClock node) ⊎ SenderOutside (node .store) (n site) ⊎ PhaseTooLate (node .phase))
 
   -- "any step but Start"
   abbrev pub SiteOrRecordOutOfRange : Type 0
-  SiteOrRecordOutOfRange = (named step .kind ≡ start → ⊥) × (SiteOutOfRange ⊎ RecordOutOfRange)
+  SiteOrRecordOutOfRange = NoStart (named step .beginning) × (SiteOutOfRange ⊎ RecordOutOfRange)
 
   -- "Checks run in this order: 17, 16, then 1 for Start, then 2 to 15." (17 is the log's.)
   abbrev pub refusalTable : List Row

@@ -1,13 +1,14 @@
 -- Over any list of tests: the refusal is k exactly when the condition of row k is met and that of no row in front of it.
 use Prim.Native.Nat.{ℕ, _≤_, _<_}
 use mathlib.Core.Path.{_≡_, refl}
-use mathlib.Core.Bool.{Bool, true, false, not, _&&_, cond, true≢false, and-eq-true-iff}
+use mathlib.Core.Bool.{Bool, true, false, not, _&&_, cond, true≢false}
 use mathlib.Core.Logic.{_↔_}
 use mathlib.Core.List.{List, [], _∷_}
 use native.Mathlib.Omega.{arith}
 use lib.Dec.{eqb, leb, ltb}
 use borrow.Author.Tests.{eqb-true, eqb-false, leb-true, ltb-true, not-true}
 use Rattle.refusals.specs.Tests.{Test, refusal}
+use Rattle.refusals.specs.Bools.{left, right}
 
 -- a row of a table of refusals: its number, and the condition on which it is given
 abbrev pub Row : Type 1
@@ -34,39 +35,32 @@ Tells test C = (test ≡ false) ↔ C
 
 -- the tests tell the conditions of the rows, one each and in the same order
 pub data Tell : List Test → List Row → Type 1 where
-  nothing : Tell [] []
+  no-rows : Tell [] []
   also : (k : ℕ) {test : Bool} {C : Type 0} {ts : List Test} {rows : List Row} → Tells test C → Tell ts rows
       → Tell ((k, test) ∷ ts) ((k, C) ∷ rows)
 
 -- every row has a number of its own, which is not 0
-abbrev has : ℕ → List Row → Bool
-has k [] = false
-has k (row ∷ rows) = cond (eqb (row .0) k) true (has k rows)
+abbrev hasRow : ℕ → List Row → Bool
+hasRow k [] = false
+hasRow k (row ∷ rows) = cond (eqb (row .0) k) true (hasRow k rows)
 
 abbrev pub apart : List Row → Bool
 apart [] = true
-apart (row ∷ rows) = ltb 0 (row .0) && (not (has (row .0) rows) && apart rows)
+apart (row ∷ rows) = ltb 0 (row .0) && (not (hasRow (row .0) rows) && apart rows)
 
 -- every number is at most m
 abbrev pub upTo : ℕ → List Row → Bool
 upTo m [] = true
 upTo m (row ∷ rows) = leb (row .0) m && upTo m rows
 
--- what `and` of two tests that are passed says of each
-left : (a b : Bool) → (a && b) ≡ true → a ≡ true
-left a b e = and-eq-true-iff a b .0 e .0
-
-right : (a b : Bool) → (a && b) ≡ true → b ≡ true
-right a b e = and-eq-true-iff a b .0 e .1
-
 -- A number that no row has is never the refusal.
-pub absent : {ts : List Test} {rows : List Row} (k : ℕ) → 0 < k → has k rows ≡ false → Tell ts rows → refusal ts ≡ k → ⊥
+pub absent : {ts : List Test} {rows : List Row} (k : ℕ) → 0 < k → hasRow k rows ≡ false → Tell ts rows → refusal ts ≡ k → ⊥
 unfolding refusal
-absent k pos h nothing e = omega arith
+absent k pos h no-rows e = omega arith
 absent k pos h (also j {test} {C} {ts} {rows} tells rest) e = go (eqb j k) test refl h e (λ h. absent k pos h rest)
   where
-    go : (same t : Bool) → eqb j k ≡ same → cond same true (has k rows) ≡ false → cond t (refusal ts) j ≡ k
-        → (has k rows ≡ false → refusal ts ≡ k → ⊥) → ⊥
+    go : (same t : Bool) → eqb j k ≡ same → cond same true (hasRow k rows) ≡ false → cond t (refusal ts) j ≡ k
+        → (hasRow k rows ≡ false → refusal ts ≡ k → ⊥) → ⊥
     go true t q h e ih = true≢false h
     go false true q h e ih = ih h e
     go false false q h e ih = eqb-false j k q e
@@ -75,14 +69,14 @@ absent k pos h (also j {test} {C} {ts} {rows} tells rest) e = go (eqb j k) test 
 pub exactly : {ts : List Test} {rows : List Row} → Tell ts rows → apart rows ≡ true → (k : ℕ) → 0 < k
     → (refusal ts ≡ k) ↔ (NoneBefore k rows × Condition k rows)
 unfolding refusal
-exactly nothing a k pos = (λ e. omega arith, λ h. absurd (h .1))
-exactly (also j {test} {C} {ts} {rows} tells rest) a k pos = go (eqb j k) test refl tells (exactly rest (right (not (has j rows)) _ more) k pos)
+exactly no-rows a k pos = (λ e. omega arith, λ h. absurd (h .1))
+exactly (also j {test} {C} {ts} {rows} tells rest) a k pos = go (eqb j k) test refl tells (exactly rest (right (not (hasRow j rows)) _ more) k pos)
   where
-    more : (not (has j rows) && apart rows) ≡ true
+    more : (not (hasRow j rows) && apart rows) ≡ true
     more = right (ltb 0 j) _ a
 
     never : j ≡ k → refusal ts ≡ k → ⊥
-    never q = absent k pos (rw (← q) (not-true _ (left (not (has j rows)) _ more))) rest
+    never q = absent k pos (rw (← q) (not-true _ (left (not (hasRow j rows)) _ more))) rest
 
     go : (same t : Bool) → eqb j k ≡ same → Tells t C → (refusal ts ≡ k) ↔ (NoneBefore k rows × Condition k rows)
         → (cond t (refusal ts) j ≡ k)
@@ -95,8 +89,8 @@ exactly (also j {test} {C} {ts} {rows} tells rest) a k pos = go (eqb j k) test r
 -- The refusal is 0, done, exactly when no row has its condition met.
 pub exactly-done : {ts : List Test} {rows : List Row} → Tell ts rows → apart rows ≡ true → (refusal ts ≡ 0) ↔ None rows
 unfolding refusal
-exactly-done nothing a = (λ e. tt, λ h. refl)
-exactly-done (also j {test} {C} {ts} {rows} tells rest) a = go test tells (exactly-done rest (right (not (has j rows)) _ (right (ltb 0 j) _ a)))
+exactly-done no-rows a = (λ e. tt, λ h. refl)
+exactly-done (also j {test} {C} {ts} {rows} tells rest) a = go test tells (exactly-done rest (right (not (hasRow j rows)) _ (right (ltb 0 j) _ a)))
   where
     pos : 0 < j
     pos = ltb-true 0 j (left (ltb 0 j) _ a)
@@ -111,7 +105,7 @@ exactly-done (also j {test} {C} {ts} {rows} tells rest) a = go test tells (exact
 -- The refusal is no larger than the largest number.
 pub at-most : {ts : List Test} {rows : List Row} → Tell ts rows → (m : ℕ) → upTo m rows ≡ true → refusal ts ≤ m
 unfolding refusal
-at-most nothing m a = omega arith
+at-most no-rows m a = omega arith
 at-most (also j {test} {C} {ts} {rows} tells rest) m a = go test (at-most rest m (right (leb j m) _ a))
   where
     go : (t : Bool) → refusal ts ≤ m → cond t (refusal ts) j ≤ m

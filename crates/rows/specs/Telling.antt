@@ -3,11 +3,15 @@ use Prim.Native.Nat.{ℕ, _≤_, _<_}
 use mathlib.Core.Path.{_≡_, refl, sym, _∙_}
 use mathlib.Core.Bool.{Bool, true, false, not, _&&_, _||_, true≢false}
 use mathlib.Core.Logic.{_↔_, _⊎_, inl, inr}
+use mathlib.Core.List.{List, [], _∷_}
 use mathlib.Core.Option.{Option, some, none}
 use lib.Dec.{eqb, leb, ltb}
 use borrow.Author.Tests.{ltb-false, le-ltb, leb-false, lt-leb, eqb-true, eqb-false, eq-eqb, ne-eqb, not-false}
 use Rattle.rows.specs.Exactly.{Tells}
-use Rattle.rows.specs.Named.{StepKind, Kind-discrete, isYes, isKind, Of}
+use Rattle.steps.specs.declared.Beginning.{Beginning}
+use Rattle.steps.specs.Named.{StepKind, Kind-discrete, isYes, isKind, Of, OneOf, ofNamed, ofEach}
+use Rattle.refusing.specs.Tests.{unlessStart}
+use Rattle.rows.specs.Conditions.{NoStart}
 
 pub itself : (a : Bool) → Tells a (a ≡ false)
 itself a = (λ e. e, λ e. e)
@@ -33,6 +37,7 @@ equal a b = (λ e. eqb-true a b (negated (eqb a b) .0 e), λ e. negated (eqb a b
 
 -- one of two tests fails; both do
 infixr 2 _or_
+infixr 3 _and_
 pub _or_ : {a b : Bool} {A B : Type 0} → Tells a A → Tells b B → Tells (a && b) (A ⊎ B)
 _or_ {a} {b} {A} {B} p q = go a p
   where
@@ -44,8 +49,8 @@ _or_ {a} {b} {A} {B} p q = go a p
         either (inr y) = q .1 y
     go false p = (λ e. inl (p .0 refl), λ h. refl)
 
-pub both : {a b : Bool} {A B : Type 0} → Tells a A → Tells b B → Tells (a || b) (A × B)
-both {a} {b} {A} {B} p q = go a p
+pub _and_ : {a b : Bool} {A B : Type 0} → Tells a A → Tells b B → Tells (a || b) (A × B)
+_and_ {a} {b} {A} {B} p q = go a p
   where
     go : (a : Bool) → Tells a A → Tells (a || b) (A × B)
     go true p = (λ e. absurd (true≢false e), λ h. p .1 (h .0))
@@ -59,14 +64,14 @@ spelled e tells = (λ h. tells .0 (sym e ∙ h), λ c. e ∙ tells .1 c)
 pub worded : {a : Bool} {C D : Type 0} → C ↔ D → Tells a C → Tells a D
 worded iff tells = (λ h. iff .0 (tells .0 h), λ d. tells .1 (iff .1 d))
 
--- a test of what a step may name is passed where it does not name it
-abbrev pub ofNamed : {A : Type 0} → Option A → (A → Bool) → Bool
-ofNamed none p = true
-ofNamed (some a) p = p a
-
+-- of what a step may name
 pub of-named : {A : Type 0} (o : Option A) {p : A → Bool} {P : A → Type 0} → ((a : A) → Tells (p a) (P a)) → Tells (ofNamed o p) (Of o P)
 of-named none tells = (true≢false, absurd)
 of-named (some a) tells = tells a
+
+pub of-each : {A : Type 0} (l : List A) {p : A → Bool} {P : A → Type 0} → ((a : A) → Tells (p a) (P a)) → Tells (ofEach l p) (OneOf l P)
+of-each [] tells = (true≢false, absurd)
+of-each (a ∷ others) tells = tells a or of-each others tells
 
 -- a test of the kind
 pub kind-is : (a b : StepKind) → Tells (not (isKind a b)) (a ≡ b)
@@ -76,9 +81,7 @@ kind-is a b = go (Kind-discrete a b)
     go (yes e) = (λ h. e, λ h. refl)
     go (no ne) = (λ h. absurd (true≢false h), λ e. absurd (ne e))
 
-pub kind-not : (a b : StepKind) → Tells (isKind a b) (a ≡ b → ⊥)
-kind-not a b = go (Kind-discrete a b)
-  where
-    go : (d : Dec (a ≡ b)) → Tells (isYes d) (a ≡ b → ⊥)
-    go (yes e) = (λ h. absurd (true≢false h), λ ne. absurd (ne e))
-    go (no ne) = (λ h. ne, λ h. refl)
+-- any step but Start
+pub no-start : (b : Option Beginning) {test : Bool} {C : Type 0} → Tells test C → Tells (unlessStart b test) (NoStart b × C)
+no-start (some b) tells = (λ e. absurd (true≢false e), λ h. absurd (h .0))
+no-start none tells = (λ e. (tt, tells .0 e), λ h. tells .1 (h .1))

@@ -9,7 +9,7 @@ use native.Mathlib.Omega.{arith}
 use lib.Dec.{eqb}
 use lib.ListN.{length}
 use borrow.Author.Tests.{eqb-true}
-use Rattle.refusals.specs.Tests.{refusal, done-passed, each-passed}
+use Rattle.refusals.specs.Bools.{left, and-true}
 use Rattle.time.specs.declared.Dts.{Dts}
 use Rattle.time.specs.Larger.{larger, larger-least}
 use Rattle.pairs.specs.declared.Pair.{Pair}
@@ -17,24 +17,29 @@ use Rattle.pairs.specs.declared.Known.{Known}
 use Rattle.pairs.specs.declared.Known.the-variants.{Yes, No}
 use Rattle.pairs.specs.Pair.{pair}
 use Rattle.node.specs.declared.Node.{Node}
+use Rattle.steps.specs.declared.Beginning.{Beginning}
+use Rattle.steps.specs.declared.Event.{Event}
+use Rattle.steps.specs.declared.Turn.{Turn}
+use Rattle.steps.specs.declared.Turn.the-variants.{Down, Up}
 use Rattle.steps.specs.declared.Step.{Step}
-use Rattle.steps.specs.declared.Step.the-variants.{Start, Tick, Report, Deliver, ShareTimeout, ResendTimeout, Command, Ack, Query, Down, Up}
+use Rattle.steps.specs.declared.Step.the-variants.{Start, Tick, AtNode, Life, AtBreaker}
 use Rattle.breaker.specs.Breaker.{started, repeats}
 use Rattle.site.specs.declared.Site.{Site}
 use Rattle.site.specs.declared.Out.{Out}
-use Rattle.refusing.specs.Tests.{commandTests, testsOf}
+use Rattle.refusing.specs.Tests.{verdict}
+use Rattle.refusing.specs.Accepted.{Passes, row-passed}
 use Rattle.refusing.specs.CommandLaws.{shared-by-one, stamp-above}
-use Rattle.effects.specs.Effects.{startedSite, ticked, act, onlyAck, commanded, effectOf}
+use Rattle.effects.specs.Effects.{startedSite, ticked, act, onlyAck, commanded, turned, effectOf}
 use Rattle.effects.specs.CommandLaws.{repeat-done, change-done}
 use Rattle.lent.specs.Lent.{recordOf, outOf}
-use Rattle.steps.specs.Actor.{actor}
 use Rattle.stepping.specs.StepLaws.{by-tests}
-use Rattle.rows.specs.Named.{Beginning, command, isKind}
-use Rattle.sequences.specs.History.{Entry, Accepted, Change, stepKind, lastStart, accepted, statusBy, breakerStatus, unlessHad, changeBy, changesIn}
+use Rattle.steps.specs.Named.{named}
+use Rattle.sequences.specs.History.{Entry, Accepted, Change, nextNumber, lastStart, accepted, breakerStatus, unlessHad, changesIn}
 use Rattle.sequences.specs.Moments.{Moment, Reached, from, then}
 use Rattle.sequences.specs.Demand.{Correct, Earlier, Shared, Each, SharedEarlier, BothStamps, Rising}
+use Rattle.rows.specs.Rows.{commands}
 use Rattle.sequences.specs.Fitting.{doneWith}
-use Rattle.sequences.specs.Passing.{sound}
+use Rattle.site.specs.Sound.{sound}
 use Rattle.sequences.specs.Keeps.{Keeps}
 use Rattle.sequences.specs.Reaching.{no-start, reached-keeps}
 
@@ -60,7 +65,7 @@ stampOf No = 0
 
 module _ (b : Beginning) (steps : List Accepted) (site : Site) (before : Changing b steps site) where
   -- where neither the breaker's pair nor the list of changes moves
-  unmoved : (a : Accepted) (next : Site) → next .breaker .pair ≡ site .breaker .pair → breakerStatus (b .status) (a ∷ steps) ≡ breakerStatus (b .status) steps
+  pub unmoved : (a : Accepted) (next : Site) → next .breaker .pair ≡ site .breaker .pair → breakerStatus (b .status) (a ∷ steps) ≡ breakerStatus (b .status) steps
       → changesIn (b .status) (a ∷ steps) ≡ changesIn (b .status) steps → Changing b (a ∷ steps) next
   unmoved a next same same-status no-more =
       record {
@@ -72,17 +77,14 @@ module _ (b : Beginning) (steps : List Accepted) (site : Site) (before : Changin
             (subst (λ (p : Pair). Each (NotAbove (p .stamp)) (changesIn (b .status) steps)) (sym same) (before .not-above));
       }
 
-  -- a step that is no command
-  pub elsewhere : (a : Accepted) (next : Site) → isKind (stepKind a) command ≡ false → next .breaker .pair ≡ site .breaker .pair → Changing b (a ∷ steps) next
-  elsewhere a next other same =
-      unmoved a next same
-      (ap (λ (is : Bool). cond is (statusBy a (breakerStatus (b .status) steps)) (breakerStatus (b .status) steps)) other)
-      (ap (λ (is : Bool). cond is (changeBy a (breakerStatus (b .status) steps) steps) [] ++ changesIn (b .status) steps) other)
+  module _ (number : ℕ) (t : Dts) (A : ℕ) (T : Dts) where
+    -- the command, with the ack that was sent
+    abbrev commandWith : Pair → Accepted
+    commandWith sent = doneWith number (commands t A T) (onlyAck sent)
 
-  module _ (t : Dts) (A : ℕ) (T : Dts) where
     -- a command for the status that the breaker has not: it is a change
     pub changed : (next : Site) → repeats (site .breaker) A ≡ false → next .breaker .pair ≡ pair A (larger T t) → site .breaker .pair .stamp .0 < T .0
-        → (i : ℕ) × Correct b i × Earlier (Shared i A T) steps → Changing b (doneWith (Command t A T) (onlyAck (pair A (larger T t))) ∷ steps) next
+        → (i : ℕ) × Correct b steps i × Earlier (Shared i A T) steps → Changing b (commandWith (pair A (larger T t)) ∷ steps) next
     changed next e same higher found =
         let least : T .0 ≤ larger T t .0 = larger-least T t in
         let list : c ∷ changesIn (b .status) steps ≡ changesIn (b .status) (a ∷ steps) =
@@ -100,10 +102,10 @@ module _ (b : Beginning) (steps : List Accepted) (site : Site) (before : Changin
         }
       where
         a : Accepted
-        a = doneWith (Command t A T) (onlyAck (pair A (larger T t)))
+        a = commandWith (pair A (larger T t))
 
         c : Change
-        c = record { action = A; stamp = T; acked = Yes (pair A (larger T t)); before = steps }
+        c = record { number = number; action = A; stamp = T; acked = Yes (pair A (larger T t)); before = steps }
 
         below : site .breaker .pair .stamp .0 < T .0 → (d : Change) → NotAbove (site .breaker .pair .stamp) d → BothStamps (λ U. U .0 < T .0) d
         below higher d old = (let x = old .0 in omega (arith, higher, x), λ p is. let x = old .1 p is in omega (arith, higher, x))
@@ -113,12 +115,12 @@ module _ (b : Beginning) (steps : List Accepted) (site : Site) (before : Changin
 
     -- one for the status that it has
     pub repeated : (next : Site) (sent : Pair) → repeats (site .breaker) A ≡ true → next .breaker .pair ≡ site .breaker .pair
-        → Changing b (doneWith (Command t A T) (onlyAck sent) ∷ steps) next
+        → Changing b (commandWith sent ∷ steps) next
     repeated next sent e same =
         let is : A ≡ site .breaker .pair .status = eqb-true _ _ e in
-        unmoved (doneWith (Command t A T) (onlyAck sent)) next same (is ∙ before .status)
+        unmoved (commandWith sent) next same (is ∙ before .status)
         (ap
-        (λ (had : Bool). unlessHad had (record { action = A; stamp = T; acked = Yes sent; before = steps }) ++ changesIn (b .status) steps)
+        (λ (had : Bool). unlessHad had (record { number = number; action = A; stamp = T; acked = Yes sent; before = steps }) ++ changesIn (b .status) steps)
         (ap (λ (had : ℕ). eqb A had) (sym (before .status)) ∙ e))
 
 -- ---- one step
@@ -133,48 +135,53 @@ module _
         (b : Beginning) → lastStart (record { step = step; answer = out .answer } ∷ h) ≡ some b
         → Changing b (accepted (record { step = step; answer = out .answer } ∷ h)) (out .site)
 
-    starts : (b : Beginning) → Changing b [] (startedSite (b .f) (b .k) (b .compromised) (b .status) (b .g))
+    starts : (b : Beginning) → Changing b [] (startedSite b)
     unfolding startedSite started
     starts b = record { status = refl; shared = tt; rising = tt; not-above = tt }
 
-    commands : (node : Node) (t : Dts) (A : ℕ) (T : Dts) → refusal (commandTests site (length records) t A T) ≡ 0
-        → ChangedBy (Command t A T) (commanded site node t A T)
-    commands node t A T e = go (repeats (site .breaker) A) refl
+    commanding : (node : Node) (t : Dts) (A : ℕ) (T : Dts) → Passes site (length records) node (commands t A T)
+        → ChangedBy (commands t A T) (commanded site node t (record { status = A; stamp = T }))
+    commanding node t A T e = go (repeats (site .breaker) A) refl
       where
-        go : (x : Bool) → repeats (site .breaker) A ≡ x → ChangedBy (Command t A T) (commanded site node t A T)
+        go : (x : Bool) → repeats (site .breaker) A ≡ x → ChangedBy (commands t A T) (commanded site node t (record { status = A; stamp = T }))
         go true r =
-            subst (ChangedBy (Command t A T)) (sym (repeat-done site node t A T r))
-            (λ b q. repeated b (accepted h) site (before b q) t A T _ (site .breaker .pair) r refl)
+            subst (ChangedBy (commands t A T)) (sym (repeat-done site node t A T r))
+            (λ b q. repeated b (accepted h) site (before b q) (nextNumber h) t A T _ (site .breaker .pair) r refl)
         go false r =
-            let ok = done-passed (commandTests site (length records) t A T) refl e in
-            let whole = sound site (length records) (each-passed 0 _ ok) in
-            let found = shared-by-one site A T (whole .few) (each-passed 5 _ ok) in
-            subst (ChangedBy (Command t A T)) (sym (change-done site node t A T r))
+            let whole = sound site (length records) (left _ true (row-passed site (length records) node (commands t A T) 16 e)) in
+            let yes : verdict site A T ≡ true = sym (and-true (verdict site A T)) ∙ row-passed site (length records) node (commands t A T) 8 e in
+            let found = shared-by-one site A T (whole .few) yes in
+            subst (ChangedBy (commands t A T)) (sym (change-done site node t A T r))
             (λ b q.
             let made = keeps b q .made (found .0) A T (found .2) in
-            changed b (accepted h) site (before b q) t A T _ r refl (stamp-above site (length records) t A T ok r) (found .0, made .0, made .1))
+            changed b (accepted h) site (before b q) (nextNumber h) t A T _ r refl
+            (stamp-above site A T (row-passed site (length records) node (commands t A T) 11 e) r) (found .0, made .0, made .1))
 
-    done : (step : Step) (node : Node) → refusal (testsOf site (length records) node step) ≡ 0 → ChangedBy step (effectOf site node step)
-    unfolding testsOf effectOf act ticked
-    done (Start f k compromised status g₀) node e = λ b q.
-        let is : record { f = f; k = k; compromised = compromised; status = status; g = g₀ } ≡ b = ap (λ (o : Option Beginning). Option·getD o b) q in
-        subst (λ (x : Beginning). Changing x [] (startedSite f k compromised status g₀)) is
-        (starts (record { f = f; k = k; compromised = compromised; status = status; g = g₀ }))
-    done Tick node e = λ b q. elsewhere b (accepted h) site (before b q) _ _ refl refl
-    done (Report i t status number) node e = λ b q. elsewhere b (accepted h) site (before b q) _ _ refl refl
-    done (Deliver sender i t status T) node e = λ b q. elsewhere b (accepted h) site (before b q) _ _ refl refl
-    done (ShareTimeout i t) node e = λ b q. elsewhere b (accepted h) site (before b q) _ _ refl refl
-    done (ResendTimeout i t) node e = λ b q. elsewhere b (accepted h) site (before b q) _ _ refl refl
-    done (Command t status T) node e = commands node t status T e
-    done (Ack i t back) node e = λ b q. elsewhere b (accepted h) site (before b q) _ _ refl refl
-    done (Query i t) node e = λ b q. elsewhere b (accepted h) site (before b q) _ _ refl refl
-    done (Down i) node e = λ b q. elsewhere b (accepted h) site (before b q) _ _ refl refl
-    done (Up i) node e = λ b q. elsewhere b (accepted h) site (before b q) _ _ refl refl
+    begins-anew : (first : Beginning) (node : Node) → ChangedBy (Start first) (effectOf site node (Start first))
+    unfolding effectOf
+    begins-anew first node = λ b q. subst (λ (x : Beginning). Changing x [] (startedSite first)) (ap (λ (o : Option Beginning). Option·getD o b) q) (starts first)
+
+    happens-at : (i : ℕ) (t : Dts) (event : Event) (node : Node) → ChangedBy (AtNode i t event) (effectOf site node (AtNode i t event))
+    unfolding effectOf act
+    happens-at i t event node = λ b q. unmoved b (accepted h) site (before b q) _ _ refl refl refl
+
+    takes-turn : (i : ℕ) (turn : Turn) (node : Node) → ChangedBy (Life i turn) (effectOf site node (Life i turn))
+    unfolding effectOf turned
+    takes-turn i Down node = λ b q. unmoved b (accepted h) site (before b q) _ _ refl refl refl
+    takes-turn i Up node = λ b q. unmoved b (accepted h) site (before b q) _ _ refl refl refl
+
+    done : (step : Step) (node : Node) → Passes site (length records) node step → ChangedBy step (effectOf site node step)
+    unfolding effectOf ticked
+    done (Start first) node e = begins-anew first node
+    done Tick node e = λ b q. unmoved b (accepted h) site (before b q) _ _ refl refl refl
+    done (AtNode i t event) node e = happens-at i t event node
+    done (Life i turn) node e = takes-turn i turn node
+    done (AtBreaker t act) node e = commanding node t (act .status) (act .stamp) e
 
     pub changing : (step : Step) → ChangedBy step (outOf site records step)
     unfolding outOf
     changing step =
-        by-tests (ChangedBy step) site (length records) (recordOf (actor step) records) step (done step (recordOf (actor step) records)) (λ number. before)
+        by-tests (ChangedBy step) site (length records) (recordOf (named step .actor) records) step (done step (recordOf (named step .actor) records)) (λ number. before)
 
 -- ---- every sequence
 

@@ -10,7 +10,7 @@ use mathlib.Core.Logic.{_⊎_}
 use mathlib.Core.Option.{some}
 use Rattle.time.specs.declared.Dts.{Dts}
 use Rattle.senders.specs.Sets.{countBelow}
-use Rattle.senders.specs.Masks.{isIn, size}
+use Rattle.senders.specs.Masks.{size}
 use Rattle.pairs.specs.declared.Pair.{Pair}
 use Rattle.pairs.specs.declared.Known.the-variants.{Yes}
 use Rattle.pairs.specs.Pair.{listed, has}
@@ -18,18 +18,19 @@ use Rattle.node.specs.declared.Record.{Record}
 use Rattle.node.specs.declared.Phase.the-variants.{Running}
 use Rattle.node.specs.State.{attempts}
 use Rattle.node.specs.Asked.{isRunning}
+use Rattle.steps.specs.declared.Beginning.{Beginning}
 use Rattle.steps.specs.declared.Step.{Step}
+use Rattle.steps.specs.Named.{named, Of}
 use Rattle.breaker.specs.Breaker.{changeAt}
 use Rattle.site.specs.declared.Sent.{Sent}
 use Rattle.site.specs.declared.Answer.the-variants.{Done}
 use Rattle.site.specs.Site.{nodes}
-use Rattle.rows.specs.Named.{Beginning, named, Of}
-use Rattle.sequences.specs.History.{Entry, Accepted, Change, lastStart, accepted, breakerStatus, changesIn, isAt, atNode, lastReport, clock, runs, deliveries, freshAtClock}
+use Rattle.sequences.specs.History.{Entry, Accepted, Change, lastStart, accepted, isCompromised, breakerStatus, changesIn, isAt, atNode, lastReport, clock, runs, deliveries, freshAtClock}
 use Rattle.sequences.specs.Moments.{Moment, Reached, answerTo, afterStep, nodeAt, holds}
 
--- a correct node of the last Start's
-abbrev pub Correct : Beginning → ℕ → Type 0
-Correct b i = (i < nodes (b .f) (b .k)) × (isIn (b .compromised) i ≡ false)
+-- a correct node, for what the last Start gave and the steps accepted since
+abbrev pub Correct : Beginning → List Accepted → ℕ → Type 0
+Correct b steps i = (i < nodes (b .f) (b .k)) × (isCompromised b steps i ≡ false)
 
 -- one of some accepted steps, with those before it, is as P says
 pub data Earlier (P : Accepted → List Accepted → Type 0) : List Accepted → Type 0 where
@@ -50,7 +51,7 @@ pub record Shared (i A : ℕ) (T : Dts) (a : Accepted) (before : List Accepted) 
 
 -- a change was shared, earlier than it was accepted, by a correct node
 abbrev pub SharedEarlier : Beginning → Change → Type 0
-SharedEarlier b c = (i : ℕ) × Correct b i × Earlier (Shared i (c .action) (c .stamp)) (c .before)
+SharedEarlier b c = (i : ℕ) × Correct b (c .before) i × Earlier (Shared i (c .action) (c .stamp)) (c .before)
 
 -- a change's stamp T, and the stamp that the breaker acknowledged, are as P says
 abbrev pub BothStamps : (Dts → Type 0) → Change → Type 0
@@ -91,29 +92,29 @@ module _ (h : List Entry) (m : Moment) (b : Beginning) where
   -- 3. "What a running correct node holds from a sender follows from that sender's fresh shares delivered since the holder began running and the
   -- holder's clock, whatever the others send". A correct node runs when its history says so,
   abbrev pub RunsAsTold : Type 0
-  RunsAsTold = (j : ℕ) → Correct b j → isRunning (nodeAt m j) ≡ runs (at j)
+  RunsAsTold = (j : ℕ) → Correct b (accepted h) j → isRunning (nodeAt m j) ≡ runs (at j)
 
   -- and then a share is held exactly when it was delivered, or made by the node itself, since the node began running, and its stamp is fresh now.
   abbrev pub HeldExactly : Type 0
   HeldExactly =
-      (j : ℕ) → Correct b j → runs (at j) ≡ true
+      (j : ℕ) → Correct b (accepted h) j → runs (at j) ≡ true
       → (i A : ℕ) (T : Dts) → holds m j A T i ≡ (has (deliveries i j (at j)) A T && freshAtClock T (clock (at j)))
 
   -- 4. "where f+1 senders are held at a fresh stamp above its breaker stamp, for the action it attempts, it sends the command in that same step":
   -- no running correct node is left in Attempt with such a stamp.
   abbrev pub NoneLeft : Type 0
   NoneLeft =
-      (j : ℕ) → Correct b j → (rec : Record) → nodeAt m j .phase ≡ Running rec → attempts (rec .r) (rec .b) ≡ true
+      (j : ℕ) → Correct b (accepted h) j → (rec : Record) → nodeAt m j .phase ≡ Running rec → attempts (rec .r) (rec .b) ≡ true
       → (T : Dts) → rec .b .stamp .0 < T .0 → countBelow (nodes (b .f) (b .k)) (holds m j (rec .r .status) T) ≤ b .f
 
   -- And what it takes for the breaker's moves, in a step at it while it runs, only by the change that an ack delivers or by a command that it sends in
   -- that step.
   abbrev pub MovedBySending : Type 0
   MovedBySending =
-      (j : ℕ) → Correct b j → (step : Step) (sent : Sent) → named step .actor ≡ some j → answerTo m step ≡ Done sent
+      (j : ℕ) → Correct b (accepted h) j → (step : Step) (sent : Sent) → named step .actor ≡ some j → answerTo m step ≡ Done sent
       → (rec new : Record) → nodeAt m j .phase ≡ Running rec → nodeAt (afterStep m step) j .phase ≡ Running new
       → (new .b ≡ rec .b)
-      ⊎ (Of (named step .back) λ back. changeAt (m .site .breaker) back ≡ Yes (new .b))
+      ⊎ (Of (named step .said .back) λ back. changeAt (m .site .breaker) back ≡ Yes (new .b))
       ⊎ (has (listed (sent .commands)) (new .b .status) (new .b .stamp) ≡ true)
 
 -- The demand, for every sequence that has an accepted Start
@@ -124,6 +125,6 @@ Always P = (first : Moment) (h : List Entry) (m : Moment) → Reached first h m 
 abbrev pub OneSendersOwn : Type 0
 OneSendersOwn =
     (first first′ : Moment) (h h′ : List Entry) (m m′ : Moment) → Reached first h m → Reached first′ h′ m′ → (b b′ : Beginning) → lastStart h ≡ some b → lastStart h′ ≡ some b′
-    → (j : ℕ) → Correct b j → Correct b′ j → runs (at h m b j) ≡ true → runs (at h′ m′ b′ j) ≡ true
+    → (j : ℕ) → Correct b (accepted h) j → Correct b′ (accepted h′) j → runs (at h m b j) ≡ true → runs (at h′ m′ b′ j) ≡ true
     → (i : ℕ) → deliveries i j (at h m b j) ≡ deliveries i j (at h′ m′ b′ j) → clock (at h m b j) ≡ clock (at h′ m′ b′ j)
     → (A : ℕ) (T : Dts) → holds m j A T i ≡ holds m′ j A T i

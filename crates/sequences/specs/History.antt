@@ -1,32 +1,41 @@
 -- What has happened, told by the steps and their answers alone: no field of a site or of a record is looked at. Every list has the latest first.
-use Prim.Native.Nat.{ℕ}
+use Prim.Native.Nat.{ℕ, suc}
 use mathlib.Core.Bool.{Bool, false, _&&_, _||_, cond}
 use mathlib.Core.List.{List, [], _∷_, _++_}
-use mathlib.Core.Option.{Option, none, some, Option·getD}
+use mathlib.Core.Option.{Option, none, some}
 use lib.Dec.{eqb}
+use lib.ListN.{length}
 use Rattle.time.specs.declared.Dts.{Dts}
 use Rattle.time.specs.Fresh.{fresh}
+use Rattle.senders.specs.Masks.{isIn}
 use Rattle.pairs.specs.declared.Pair.{Pair}
 use Rattle.pairs.specs.declared.Known.{Known}
 use Rattle.pairs.specs.Pair.{pair, listed}
+use Rattle.steps.specs.declared.Beginning.{Beginning}
 use Rattle.steps.specs.declared.Step.{Step}
+use Rattle.steps.specs.declared.Step.the-variants.{Start, Tick, AtNode, Life, AtBreaker}
+use Rattle.steps.specs.Named.{StepKind, report, ack, query, down, up, saidByTurn, named, isKind, among}
 use Rattle.site.specs.declared.Sent.{Sent}
 use Rattle.site.specs.declared.Answer.{Answer}
 use Rattle.site.specs.declared.Answer.the-variants.{Done, Refused}
-use Rattle.rows.specs.Named.{StepKind, report, command, ack, query, down, up, Beginning, named, isKind, among}
 
 -- a step with its answer
 pub record Entry : Type 0 where
   pub step : Step
   pub answer : Answer
 
--- an accepted step, with what was sent in it
+-- Steps are numbered from 1, refused ones too: the number of the step after those of a history
+abbrev pub nextNumber : List Entry → ℕ
+nextNumber h = suc (length h)
+
+-- an accepted step with its number, and what was sent in it
 pub record Accepted : Type 0 where
+  pub number : ℕ
   pub step : Step
   pub sent : Sent
 
 abbrev pub stepKind : Accepted → StepKind
-stepKind a = named (a .step) .kind
+stepKind a = named (a .step) .said .kind
 
 -- ---- since the last accepted Start
 
@@ -44,28 +53,37 @@ abbrev onward : Option Beginning → Accepted → List Accepted → List Accepte
 onward (some b) a before = []
 onward none a before = a ∷ before
 
-abbrev tellTo : Answer → Step → List Accepted → List Accepted
-tellTo (Done sent) step before = onward (named step .beginning) (record { step = step; sent = sent }) before
-tellTo (Refused number) step before = before
+abbrev tellTo : Answer → ℕ → Step → List Accepted → List Accepted
+tellTo (Done sent) number step before = onward (named step .beginning) (record { number = number; step = step; sent = sent }) before
+tellTo (Refused refusal) number step before = before
 
 -- the accepted steps since then
 abbrev pub accepted : List Entry → List Accepted
 accepted [] = []
-accepted (e ∷ h) = tellTo (e .answer) (e .step) (accepted h)
+accepted (e ∷ h) = tellTo (e .answer) (nextNumber h) (e .step) (accepted h)
+
+-- who is compromised, for what the last Start gave and the steps accepted since: "a fixed set", the Start's
+abbrev pub isCompromised : Beginning → List Accepted → ℕ → Bool
+isCompromised b steps i = isIn (b .compromised) i
 
 -- ---- at the breaker
 
--- the status that an accepted command leaves the breaker with
-abbrev pub statusBy : Accepted → ℕ → ℕ
-statusBy a had = Option·getD (named (a .step) .status) had
+-- the status that a step leaves the breaker with: that of an accepted command
+abbrev pub statusBy : Step → ℕ → ℕ
+statusBy (Start b) had = had
+statusBy Tick had = had
+statusBy (AtNode i t event) had = had
+statusBy (Life i turn) had = had
+statusBy (AtBreaker t act) had = act .status
 
 -- its status: the one that Start gave, and then that of the latest accepted command
 abbrev pub breakerStatus : ℕ → List Accepted → ℕ
 breakerStatus first [] = first
-breakerStatus first (a ∷ before) = cond (isKind (stepKind a) command) (statusBy a (breakerStatus first before)) (breakerStatus first before)
+breakerStatus first (a ∷ before) = statusBy (a .step) (breakerStatus first before)
 
--- an accepted change: its action, its stamp T, the ack that was sent, and the accepted steps before it
+-- an accepted change: the step's number, its action, its stamp T, the ack that was sent, and the accepted steps before it
 pub record Change : Type 0 where
+  pub number : ℕ
   pub action : ℕ
   pub stamp : Dts
   pub acked : Known
@@ -75,18 +93,18 @@ pub record Change : Type 0 where
 abbrev pub unlessHad : Bool → Change → List Change
 unlessHad had c = cond had [] (c ∷ [])
 
-abbrev changeTo : Option ℕ → Option Dts → ℕ → Known → List Accepted → List Change
-changeTo (some A) (some T) status acked before = unlessHad (eqb A status) (record { action = A; stamp = T; acked = acked; before = before })
-changeTo (some A) none status acked before = []
-changeTo none T status acked before = []
-
-abbrev pub changeBy : Accepted → ℕ → List Accepted → List Change
-changeBy a had before = changeTo (named (a .step) .status) (named (a .step) .stamp) had (a .sent .ack) before
+abbrev changeBy : Step → Accepted → ℕ → List Accepted → List Change
+changeBy (Start b) a had before = []
+changeBy Tick a had before = []
+changeBy (AtNode i t event) a had before = []
+changeBy (Life i turn) a had before = []
+changeBy (AtBreaker t act) a had before =
+    unlessHad (eqb (act .status) had) (record { number = a .number; action = act .status; stamp = act .stamp; acked = a .sent .ack; before = before })
 
 -- the accepted changes
 abbrev pub changesIn : ℕ → List Accepted → List Change
 changesIn first [] = []
-changesIn first (a ∷ before) = cond (isKind (stepKind a) command) (changeBy a (breakerStatus first before) before) [] ++ changesIn first before
+changesIn first (a ∷ before) = changeBy (a .step) a (breakerStatus first before) before ++ changesIn first before
 
 -- ---- at one node
 
@@ -98,17 +116,21 @@ isNamed j (some i) = eqb i j
 abbrev pub isAt : ℕ → Accepted → Bool
 isAt j a = isNamed j (named (a .step) .actor)
 
--- those at node j
+-- the step concerns node j: it is at j
+abbrev pub concerns : ℕ → Accepted → Bool
+concerns j a = isAt j a
+
+-- those that concern node j
 abbrev pub atNode : ℕ → List Accepted → List Accepted
 atNode j [] = []
-atNode j (a ∷ rest) = cond (isAt j a) (a ∷ atNode j rest) (atNode j rest)
+atNode j (a ∷ rest) = cond (concerns j a) (a ∷ atNode j rest) (atNode j rest)
 
--- The rest is of a list of the accepted steps at one node.
+-- The rest is of a list of the accepted steps that concern one node.
 
 -- "its relay's last accepted report": the status
 abbrev pub lastReport : List Accepted → Option ℕ
 lastReport [] = none
-lastReport (a ∷ rest) = cond (isKind (stepKind a) report) (named (a .step) .status) (lastReport rest)
+lastReport (a ∷ rest) = cond (isKind (stepKind a) report) (named (a .step) .said .status) (lastReport rest)
 
 abbrev latestOf : Option Dts → Option Dts → Option Dts
 latestOf (some t) before = some t
@@ -119,10 +141,18 @@ abbrev pub clock : List Accepted → Option Dts
 clock [] = none
 clock (a ∷ rest) = latestOf (named (a .step) .clock) (clock rest)
 
+-- it went down, or came up
+abbrev pub endsLife : Step → Bool
+endsLife (Start b) = false
+endsLife Tick = false
+endsLife (AtNode i t event) = false
+endsLife (Life i turn) = among (saidByTurn turn .kind) (down ∷ up ∷ [])
+endsLife (AtBreaker t act) = false
+
 -- the steps since it last went down or came up, or since Start
 abbrev pub life : List Accepted → List Accepted
 life [] = []
-life (a ∷ rest) = cond (among (stepKind a) (down ∷ up ∷ [])) [] (a ∷ life rest)
+life (a ∷ rest) = cond (endsLife (a .step)) [] (a ∷ life rest)
 
 -- one of these kinds is among the steps
 abbrev pub oneOf : List StepKind → List Accepted → Bool
@@ -133,17 +163,22 @@ oneOf kinds (a ∷ rest) = among (stepKind a) kinds || oneOf kinds rest
 abbrev pub runs : List Accepted → Bool
 runs rest = oneOf (report ∷ []) (life rest) && oneOf (ack ∷ query ∷ []) (life rest)
 
-abbrev deliveredFrom : ℕ → Option ℕ → Option ℕ → Option Dts → List Pair
-deliveredFrom i (some sender) (some A) (some T) = cond (eqb i sender) (pair A T ∷ []) []
-deliveredFrom i (some sender) (some A) none = []
-deliveredFrom i (some sender) none T = []
-deliveredFrom i none A T = []
+-- a share of each stamp
+abbrev sharesAt : ℕ → List Dts → List Pair
+sharesAt A [] = []
+sharesAt A (T ∷ more) = pair A T ∷ sharesAt A more
 
--- the shares of sender i that a step at node j brings it: the one that it delivers and, where the sender is j itself, those that it makes.
+abbrev pub deliveredFrom : ℕ → Option ℕ → Option ℕ → List Dts → List Pair
+deliveredFrom i (some sender) (some A) stamps = cond (eqb i sender) (sharesAt A stamps) []
+deliveredFrom i (some sender) none stamps = []
+deliveredFrom i none A stamps = []
+
+-- the shares of sender i that a step at node j brings it: those that it delivers and, where the sender is j itself, those that it makes.
 -- "Own shares count at once as delivered." (A share that is not fresh is not delivered: refusal 7.)
 abbrev pub brought : ℕ → ℕ → Accepted → List Pair
 brought i j a =
-    deliveredFrom i (named (a .step) .sender) (named (a .step) .status) (named (a .step) .stamp) ++ cond (eqb i j) (listed (a .sent .shares)) []
+    deliveredFrom i (named (a .step) .said .sender) (named (a .step) .said .status) (named (a .step) .said .stamps)
+    ++ cond (eqb i j) (listed (a .sent .shares)) []
 
 -- the shares of sender i that were delivered to node j since it began running
 abbrev pub deliveries : ℕ → ℕ → List Accepted → List Pair

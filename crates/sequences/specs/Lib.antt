@@ -2,11 +2,8 @@
 pub mod History
 pub mod Moments
 pub mod Demand
-pub mod Holding
+pub mod OfEvents
 pub mod Fitting
-pub mod Keeping
-pub mod Sharing
-pub mod Passing
 pub mod Keeps
 pub mod Reaching
 pub mod Changing

@@ -18,18 +18,15 @@ use Rattle.store.specs.Held.{held}
 use Rattle.store.specs.EarliestLaws.{earliest-nothing}
 use Rattle.pairs.specs.declared.Pair.{Pair}
 use Rattle.pairs.specs.Pair.{has}
-use Rattle.node.specs.declared.Learned.{Learned}
 use Rattle.node.specs.declared.Record.{Record}
-use Rattle.node.specs.declared.Phase.{Phase}
-use Rattle.node.specs.declared.Phase.the-variants.{Starting, Running, Down as NotUp}
 use Rattle.node.specs.State.{attempts}
-use Rattle.node.specs.Asked.{isRunning}
+use Rattle.node.specs.Asked.{phaseRunning}
+use Rattle.combining.specs.CombiningLaws.{Quiet}
 use Rattle.site.specs.Site.{nodes}
-use Rattle.rows.specs.Named.{report, ack, query}
-use Rattle.sequences.specs.History.{Accepted, accepted, atNode, clock, life, oneOf, runs, deliveries, freshAtClock}
+use Rattle.sequences.specs.History.{Accepted, accepted, atNode, deliveries, freshAtClock}
 use Rattle.sequences.specs.Moments.{nodeAt, holds}
 use Rattle.sequences.specs.Demand.{Always, AtMostF, StatusAsTold, SharedByACorrectNode, StampsRise, RunsAsTold, HeldExactly, NoneLeft, OneSendersOwn}
-use Rattle.sequences.specs.Fitting.{Fits, StartingFits, RunningFits}
+use Rattle.sequences.specs.Fitting.{RunningFits, runs-told}
 use Rattle.sequences.specs.Reaching.{reached-keeps}
 use Rattle.sequences.specs.Changing.{reached-changing}
 
@@ -51,32 +48,15 @@ stamps-rise first h m r b q = reached-changing r b q .rising
 
 -- ---- 3
 
-module _ (f j : ℕ) (s : Store) (own : List Accepted) where
-  not-yet : (l : Learned) → StartingFits f j l own → runs own ≡ false
-  not-yet l fits = ap₂ (λ (x y : Bool). x && y) (sym (fits .r-known)) (sym (fits .b-known)) ∙ fits .not-both
-
-  lifeless : life own ≡ [] → runs own ≡ false
-  lifeless e = ap (λ (l : List Accepted). oneOf (report ∷ []) l && oneOf (ack ∷ query ∷ []) l) e
-
-  runs-told : (p : Phase) → Fits f j p s own → isRunning (record { phase = p; store = s }) ≡ runs own
-  runs-told NotUp fits = sym (lifeless fits)
-  runs-told (Starting l) fits = sym (not-yet l fits)
-  runs-told (Running rec) fits = sym (fits .running)
-
-  held-told : (p : Phase) → Fits f j p s own → runs own ≡ true → (i A : ℕ) (T : Dts)
-      → held s A T i ≡ (has (deliveries i j own) A T && freshAtClock T (clock own))
-  held-told NotUp fits e i A T = absurd (false≢true (sym (lifeless fits) ∙ e))
-  held-told (Starting l) fits e i A T = absurd (false≢true (sym (not-yet l fits) ∙ e))
-  held-told (Running rec) fits e i A T =
-      fits .holding i A T ∙ ap (λ (c : Option Dts). has (deliveries i j own) A T && freshAtClock T c) (sym (fits .now))
-
 pub runs-as-told : Always RunsAsTold
 runs-as-told first h m r b q j c =
-    runs-told (m .site .f) j (nodeAt m j .store) (atNode j (accepted h)) (nodeAt m j .phase) (reached-keeps r b q .fits j c)
+    runs-told (m .site .f) j (nodeAt m j .phase) (nodeAt m j .store) (atNode j (accepted h)) (reached-keeps r b q .fits j c)
 
 pub held-exactly : Always HeldExactly
-held-exactly first h m r b q j c e =
-    held-told (m .site .f) j (nodeAt m j .store) (atNode j (accepted h)) (nodeAt m j .phase) (reached-keeps r b q .fits j c) e
+held-exactly first h m r b q j c e i A T =
+    let fits = reached-keeps r b q .fits j c in
+    let running = fits .while-running (runs-told (m .site .f) j (nodeAt m j .phase) (nodeAt m j .store) (atNode j (accepted h)) fits ∙ e) in
+    running .holding i A T ∙ ap (λ (t : Option Dts). has (deliveries i j (atNode j (accepted h))) A T && freshAtClock T t) (sym (running .now))
 
 pub one-senders-own : OneSendersOwn
 one-senders-own first first′ h h′ m m′ r r′ b b′ q q′ j c c′ e e′ i same-deliveries same-clock A T =
@@ -86,14 +66,14 @@ one-senders-own first first′ h h′ m m′ r r′ b b′ q q′ j c c′ e e�
 
 -- ---- 4
 
-few-held : (f j : ℕ) (rec : Record) (s : Store) (own : List Accepted) (n : ℕ) → n ≤ room → RunningFits f j rec s own → attempts (rec .r) (rec .b) ≡ true
+few-held : (f j : ℕ) (rec : Record) (s : Store) (own : List Accepted) (n : ℕ) → n ≤ room → RunningFits f j s own → Quiet rec s f → attempts (rec .r) (rec .b) ≡ true
     → (T : Dts) → rec .b .stamp .0 < T .0 → countBelow n (held s (rec .r .status) T) ≤ f
 unfolding size held
-few-held f j rec s own n l fits attempts-now T above = go (ltb (T .0) (2 ^ 32)) refl
+few-held f j rec s own n l fits left attempts-now T above = go (ltb (T .0) (2 ^ 32)) refl
   where
     go : (x : Bool) → ltb (T .0) (2 ^ 32) ≡ x → countBelow n (held s (rec .r .status) T) ≤ f
     go true e =
-        let few : countBelow room (isIn (sendersOf s (rec .r .status) T)) ≤ f = earliest-nothing s (rec .r .status) (rec .b .stamp) f (fits .quiet attempts-now) T above (ltb-true _ _ e) in
+        let few : countBelow room (isIn (sendersOf s (rec .r .status) T)) ≤ f = earliest-nothing s (rec .r .status) (rec .b .stamp) f (left attempts-now) T above (ltb-true _ _ e) in
         let more = count-more n room (held s (rec .r .status) T) l in
         omega (arith, few, more)
     go false e =
@@ -110,6 +90,8 @@ few-held f j rec s own n l fits attempts-now T above = go (ltb (T .0) (2 ^ 32)) 
 pub none-left : Always NoneLeft
 none-left first h m r b q j c rec is attempts-now T above =
     let keeps = reached-keeps r b q in
-    let fits = subst (λ (p : Phase). Fits (m .site .f) j p (nodeAt m j .store) (atNode j (accepted h))) is (keeps .fits j c) in
+    let fits = keeps .fits j c in
+    let running = fits .while-running (ap phaseRunning is) in
     subst (λ (f : ℕ). countBelow (nodes (b .f) (b .k)) (holds m j (rec .r .status) T) ≤ f) (keeps .same-f)
-    (few-held (m .site .f) j rec (nodeAt m j .store) (atNode j (accepted h)) (nodes (b .f) (b .k)) (keeps .few-nodes) fits attempts-now T above)
+    (few-held (m .site .f) j rec (nodeAt m j .store) (atNode j (accepted h)) (nodes (b .f) (b .k)) (keeps .few-nodes) running (fits .nothing-left rec is)
+    attempts-now T above)

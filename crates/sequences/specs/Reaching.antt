@@ -1,45 +1,85 @@
 -- Every sequence of steps keeps what Keeps.antt says.
-use Prim.Native.Nat.{ℕ, zero, suc, _≤_, _<_}
+use Prim.Native.Nat.{ℕ, zero, suc, _+_, _≤_, _<_}
 use mathlib.Core.Path.{_≡_, refl, sym, ap, subst, _∙_}
-use mathlib.Core.Bool.{Bool, true, false, _&&_, cond, false≢true}
+use mathlib.Core.Bool.{Bool, true, false, not, cond, false≢true}
 use mathlib.Core.Logic.{inr}
 use mathlib.Core.List.{List, [], _∷_, _++_}
 use mathlib.Core.Option.{Option, none, some, Option·getD}
 use native.Mathlib.Nat.{not-suc-le-zero, le-of-suc-le-suc}
 use native.Mathlib.Omega.{arith}
 use lib.Dec.{leb}
-use lib.ListN.{length, getD, set, drop}
-use borrow.Author.Tests.{leb-true}
-use Rattle.refusals.specs.Tests.{refusal, done-passed, each-passed}
+use lib.ListN.{length, getD, drop}
+use borrow.Author.Tests.{lt-ltb, leb-true}
+use Rattle.refusals.specs.Bools.{left, right}
 use Rattle.tables.specs.Tables.{table}
+use Rattle.time.specs.declared.Dts.{Dts}
 use Rattle.time.specs.Fresh.{fresh, next}
 use Rattle.senders.specs.Masks.{size}
 use Rattle.store.specs.Store.{movedTo}
 use Rattle.store.specs.Held.{held-empty, held-moved}
+use Rattle.pairs.specs.KnownLaws.{isKnown}
 use Rattle.node.specs.declared.Node.{Node}
-use Rattle.pairs.specs.declared.Known.{Known}
-use Rattle.combining.specs.Combining.{putAll, finished}
-use Rattle.events.specs.Events.{reported, delivered, shareTimedOut, resendTimedOut, acked, queried, wentDown, wentUp}
+use Rattle.node.specs.Asked.{phaseRunning}
+use Rattle.events.specs.Events.{wentDown, wentUp}
+use Rattle.breaker.specs.declared.Breaker.{Breaker}
+use Rattle.breaker.specs.Breaker.{mostChanges, changeAt}
+use Rattle.steps.specs.declared.Beginning.{Beginning}
+use Rattle.steps.specs.declared.Event.{Event}
+use Rattle.steps.specs.declared.Turn.{Turn}
+use Rattle.steps.specs.declared.Turn.the-variants.{Down, Up}
 use Rattle.steps.specs.declared.Step.{Step}
-use Rattle.steps.specs.declared.Step.the-variants.{Start, Tick, Report, Deliver, ShareTimeout, ResendTimeout, Command, Ack, Query, Down, Up}
-use Rattle.breaker.specs.Breaker.{pairAt}
+use Rattle.steps.specs.declared.Step.the-variants.{Start, Tick, AtNode, Life, AtBreaker}
+use Rattle.steps.specs.declared.Act.{Act}
+use Rattle.steps.specs.Named.{report, ack, query, saidBy, named, ofNamed}
+use Rattle.acting.specs.Shares.{shared}
 use Rattle.site.specs.declared.Site.{Site}
 use Rattle.site.specs.declared.Out.{Out}
-use Rattle.site.specs.Site.{nodes, g}
-use Rattle.refusing.specs.Tests.{isNode, isStatus, startTests, testsOf}
+use Rattle.site.specs.Site.{nodes, g, mostF, mostK}
 use Rattle.site.specs.Answers.{silence}
-use Rattle.effects.specs.Effects.{withMade, startedSite, firstRecord, ticked, act, ackedKnown, commanded, effectOf}
-use Rattle.lent.specs.Lent.{recordOf, outOf, firstRecords, tableAfter, tableAfterAnswer}
-use Rattle.steps.specs.Actor.{actor}
+use Rattle.refusing.specs.Tests.{isNode, isStatus}
+use Rattle.refusing.specs.Accepted.{Passes, row-passed, begins, happens, turns}
+use Rattle.effects.specs.Effects.{startedSite, firstRecord, ticked, act, commanded, turned, effectOf}
 use Rattle.stepping.specs.StepLaws.{by-tests}
-use Rattle.rows.specs.Named.{Beginning}
-use Rattle.sequences.specs.History.{Entry, lastStart, accepted, atNode}
+use Rattle.lent.specs.Lent.{recordOf, outOf, firstRecords, tableAfter, tableAfterAnswer}
+use Rattle.sequences.specs.History.{Entry, Accepted, nextNumber, lastStart, accepted, atNode, life, oneOf}
 use Rattle.sequences.specs.Moments.{Moment, Reached, from, then}
-use Rattle.sequences.specs.Fitting.{doneWith, sentBy}
-use Rattle.sequences.specs.Keeping.{keeps-report, keeps-deliver, keeps-share-timeout, keeps-resend-timeout, keeps-ack, keeps-query, keeps-down, keeps-up, fits-first}
-use Rattle.sequences.specs.Sharing.{report-shares, timeout-shares, deliver-shares, resend-shares, ack-shares, query-shares}
-use Rattle.sequences.specs.Passing.{left, right, placed, taken, remembered-change}
-use Rattle.sequences.specs.Keeps.{FitsNode, Keeps, correct, elsewhere, at-node, acts, acts-quietly}
+use Rattle.sequences.specs.OfEvents.{delivers}
+use Rattle.sequences.specs.Fitting.{doneWith, Fits, said-last, keeps-event}
+use Rattle.sequences.specs.Keeps.{FitsNode, Keeps, correct, elsewhere, at-node, acts}
+
+-- ---- a node that went down, one that came up, and one at the start
+
+there : {A : Type 0} → Option A → Bool
+there none = false
+there (some a) = true
+
+none-said : {A : ℕ} → none ≡ some A → ⊥
+unfolding there
+none-said e = false≢true (ap there e)
+
+fits-down : (f j : ℕ) (own : List Accepted) → life own ≡ [] → Fits f j (wentDown .phase) (wentDown .store) own
+unfolding wentDown
+fits-down f j own e =
+    record {
+      once-known = refl;
+      r-known = sym (ap (oneOf (report ∷ [])) e);
+      b-known = sym (ap (oneOf (ack ∷ query ∷ [])) e);
+      relay = λ A q. absurd (none-said q);
+      while-running = λ q. absurd (false≢true q);
+      nothing-left = λ rec q. absurd (false≢true (ap phaseRunning q));
+    }
+
+fits-up : (f j : ℕ) (own : List Accepted) → life own ≡ [] → Fits f j (wentUp .phase) (wentUp .store) own
+unfolding wentUp
+fits-up f j own e =
+    record {
+      once-known = refl;
+      r-known = sym (ap (oneOf (report ∷ [])) e);
+      b-known = sym (ap (oneOf (ack ∷ query ∷ [])) e);
+      relay = λ A q. absurd (none-said q);
+      while-running = λ q. absurd (false≢true q);
+      nothing-left = λ rec q. absurd (false≢true (ap phaseRunning q));
+    }
 
 -- ---- Start
 
@@ -49,8 +89,8 @@ front zero rule l j d h = absurd (not-suc-le-zero h)
 front (suc n) rule l zero d h = refl
 front (suc n) rule l (suc j) d h = front n (λ i. rule (suc i)) l j d (le-of-suc-le-suc h)
 
-starts : (records : List Node) (b : Beginning) → b .f ≤ 4 → b .k ≤ 3 → size (b .compromised) ≤ b .f
-    → Keeps b [] (startedSite (b .f) (b .k) (b .compromised) (b .status) (b .g)) (firstRecords (nodes (b .f) (b .k)) (b .compromised) records)
+starts : (records : List Node) (b : Beginning) → b .f ≤ mostF → b .k ≤ mostK → size (b .compromised) ≤ b .f
+    → Keeps b [] (startedSite b) (firstRecords (nodes (b .f) (b .k)) (b .compromised) records)
 unfolding startedSite firstRecord
 starts records b most-f most-k few =
     record {
@@ -65,10 +105,20 @@ starts records b most-f most-k few =
           (sym
           (front (nodes (b .f) (b .k)) (firstRecord (b .compromised)) (drop (nodes (b .f) (b .k)) records) j wentDown (c .0)
           ∙ ap (λ (x : Bool). cond x wentDown wentUp) (c .1)))
-          (fits-first (b .f) j);
+          (fits-up (b .f) j [] refl);
     }
 
 -- ---- one step
+
+-- a change that an ack delivers is remembered: rows 2 and 13
+remembered : (breaker : Breaker) (o : Option ℕ) → ofNamed o (λ back. leb back 7) ≡ true → ofNamed o (λ back. leb (back + 1) (breaker .changes .count)) ≡ true
+    → ofNamed o (λ back. isKnown (changeAt breaker back)) ≡ true
+unfolding changeAt
+remembered breaker none a b = refl
+remembered breaker (some back) a b =
+    let most = leb-true back 7 a in
+    let few = leb-true (back + 1) (breaker .changes .count) b in
+    simp (lt-ltb back (breaker .changes .count) (omega (arith, few)), lt-ltb back mostChanges (omega (arith, most)))
 
 module _ (h : List Entry) (site : Site) (records : List Node) (before : (b : Beginning) → lastStart h ≡ some b → Keeps b (accepted h) site records) where
   abbrev KeptBy : Step → Out → Type 0
@@ -77,85 +127,61 @@ module _ (h : List Entry) (site : Site) (records : List Node) (before : (b : Beg
       → Keeps b (accepted (record { step = step; answer = out .answer } ∷ h)) (out .site) (tableAfterAnswer (out .answer) step records (out .node))
 
   abbrev nodeOf : Step → Node
-  nodeOf step = recordOf (actor step) records
+  nodeOf step = recordOf (named step .actor) records
 
-  done : (step : Step) → refusal (testsOf site (length records) (nodeOf step) step) ≡ 0 → KeptBy step (effectOf site (nodeOf step) step)
-  unfolding testsOf effectOf act commanded ticked
-  done (Start f k compromised status g₀) e = λ b q.
-      let ok = done-passed (startTests (length records) f k compromised status g₀) refl e in
-      let is : record { f = f; k = k; compromised = compromised; status = status; g = g₀ } ≡ b = ap (λ (o : Option Beginning). Option·getD o b) q in
-      subst (λ (x : Beginning). Keeps x [] (startedSite f k compromised status g₀) (firstRecords (nodes f k) compromised records)) is
-      (starts records (record { f = f; k = k; compromised = compromised; status = status; g = g₀ }) (leb-true f 4 (each-passed 0 _ ok))
-      (leb-true k 3 (each-passed 1 _ ok)) (leb-true (size compromised) f (each-passed 5 _ ok)))
-  done Tick e = λ b q.
+  abbrev Does : Step → Type 0
+  Does step = Passes site (length records) (nodeOf step) step → KeptBy step (effectOf site (nodeOf step) step)
+
+  begins-anew : (first : Beginning) → Does (Start first)
+  unfolding effectOf
+  begins-anew first e = λ b q.
+      let begun = begins site (length records) (nodeOf (Start first)) first e in
+      subst (λ (x : Beginning). Keeps x [] (startedSite first) (firstRecords (nodes (first .f) (first .k)) (first .compromised) records))
+      (ap (λ (o : Option Beginning). Option·getD o b) q) (starts records first (begun .most-f) (begun .most-k) (begun .few))
+
+  ticks : Does Tick
+  unfolding effectOf ticked
+  ticks e = λ b q.
       elsewhere b (accepted h) site records (before b q) _ _ (λ j. refl) refl refl refl
       (λ i A T held-now. right (fresh T (movedTo (site .made) (next (g site)) .clock)) _ (sym (held-moved (site .made) (next (g site)) A T i) ∙ held-now))
-  done (Command t status T) e = λ b q. elsewhere b (accepted h) site records (before b q) _ _ (λ j. refl) refl refl refl (λ i A U held-now. held-now)
-  done (Report i t status number) e = λ b q.
-      let x = taken site (length records) (getD records i wentDown) i t (isStatus status) _ _ (done-passed _ refl e) in
+
+  happens-at : (i : ℕ) (t : Dts) (event : Event) → Does (AtNode i t event)
+  unfolding effectOf act
+  happens-at i t event e = λ b q.
       let node = getD records i wentDown in
+      let x = happens site (length records) node i t event e in
+      let range = right (ofNamed (saidBy event .sender) (isNode site)) _ (x .in-range) in
+      let says = left (ofNamed (saidBy event .status) isStatus) _ range in
+      let few = right (ofNamed (saidBy event .status) isStatus) (ofNamed (saidBy event .back) (λ back. leb back 7)) range in
+      let is = remembered (site .breaker) (saidBy event .back) few (row-passed site (length records) node (AtNode i t event) 13 e) in
+      let d = delivers site t event (x .place .room-for-node) (x .in-range) (row-passed site (length records) node (AtNode i t event) 7 e) in
       let fits = before b q .fits i (correct b (accepted h) site records (before b q) i (x .place)) in
-      acts b (accepted h) site records (before b q) i (Report i t status number) (reported node t status number) (λ j sent. refl) (x .place)
+      let up = x .is-up in
+      acts b (accepted h) site records (before b q) i (nextNumber h) t event (x .place)
       (λ A T told.
-      let s = report-shares (node .store) t (node .phase) status number A T (x .not-late) told in
-      (s .1, λ sent. ap some (sym (s .0))))
-      (keeps-report (site .f) i (node .store) (atNode i (accepted h)) t (x .place .has-room) (x .not-back) (x .not-late) status number (node .phase)
-      (leb-true _ _ (x .in-range)) (x .in-phase) fits)
-  done (Deliver sender i t status T) e = λ b q.
-      let x = taken site (length records) (getD records i wentDown) i t (isNode site sender && isStatus status) _ _ (done-passed _ refl e) in
-      let node = getD records i wentDown in
-      let fits = before b q .fits i (correct b (accepted h) site records (before b q) i (x .place)) in
-      acts-quietly b (accepted h) site records (before b q) i (Deliver sender i t status T) (delivered node t sender status T) (λ j sent. refl) (x .place)
-      (deliver-shares (node .store) t (node .phase) sender status T)
-      (keeps-deliver (site .f) i (node .store) (atNode i (accepted h)) t (x .place .has-room) (x .not-back) (x .not-late) sender status T (node .phase)
-      (x .place .room-for-node sender (left (isNode site sender) (isStatus status) (x .in-range)))
-      (leb-true _ _ (right (isNode site sender) (isStatus status) (x .in-range))) (each-passed 0 _ (x .others)) (x .in-phase) fits)
-  done (ShareTimeout i t) e = λ b q.
-      let x = taken site (length records) (getD records i wentDown) i t true _ _ (done-passed _ refl e) in
-      let node = getD records i wentDown in
-      let fits = before b q .fits i (correct b (accepted h) site records (before b q) i (x .place)) in
-      acts b (accepted h) site records (before b q) i (ShareTimeout i t) (shareTimedOut node t) (λ j sent. refl) (x .place)
-      (λ A T told. let s = timeout-shares (node .store) t (site .f) i (atNode i (accepted h)) (node .phase) A T fits told in (s .1, λ sent. s .0))
-      (keeps-share-timeout (site .f) i (node .store) (atNode i (accepted h)) t (x .place .has-room) (x .not-back) (x .not-late) (node .phase) (x .in-phase) fits)
-  done (ResendTimeout i t) e = λ b q.
-      let x = taken site (length records) (getD records i wentDown) i t true _ _ (done-passed _ refl e) in
-      let node = getD records i wentDown in
-      let fits = before b q .fits i (correct b (accepted h) site records (before b q) i (x .place)) in
-      acts-quietly b (accepted h) site records (before b q) i (ResendTimeout i t) (resendTimedOut node t) (λ j sent. refl) (x .place)
-      (resend-shares (node .store) t (node .phase))
-      (keeps-resend-timeout (site .f) i (node .store) (atNode i (accepted h)) t (x .place .has-room) (x .not-back) (x .not-late) (node .phase) (x .in-phase) fits)
-  done (Ack i t back) e = λ b q.
-      let x = taken site (length records) (getD records i wentDown) i t (leb back 7) _ _ (done-passed _ refl e) in
-      let node = getD records i wentDown in
-      let fits = before b q .fits i (correct b (accepted h) site records (before b q) i (x .place)) in
-      let change = pairAt (site .breaker .changes) back in
-      let is = remembered-change (site .breaker) back (leb-true _ _ (x .in-range)) (leb-true _ _ (each-passed 0 _ (x .others))) in
-      subst
-      (λ (k : Known).
-      Keeps b (doneWith (Ack i t back) (sentBy (site .f) i (finished (ackedKnown node t k) i (site .f))) ∷ accepted h)
-      (withMade site (putAll (site .made) i (finished (ackedKnown node t k) i (site .f) .shares))) (set records i (finished (ackedKnown node t k) i (site .f) .node)))
-      (sym is)
-      (acts-quietly b (accepted h) site records (before b q) i (Ack i t back) (acked node t change) (λ j sent. refl) (x .place)
-      (ack-shares (node .store) t (node .phase) change)
-      (keeps-ack (site .f) i (node .store) (atNode i (accepted h)) t (x .place .has-room) (x .not-back) (x .not-late) back change (node .phase) (x .in-phase) fits))
-  done (Query i t) e = λ b q.
-      let x = taken site (length records) (getD records i wentDown) i t true _ _ (done-passed _ refl e) in
-      let node = getD records i wentDown in
-      let fits = before b q .fits i (correct b (accepted h) site records (before b q) i (x .place)) in
-      acts-quietly b (accepted h) site records (before b q) i (Query i t) (queried node t (site .breaker .pair)) (λ j sent. refl) (x .place)
-      (query-shares (node .store) t (node .phase) (site .breaker .pair))
-      (keeps-query (site .f) i (node .store) (atNode i (accepted h)) t (x .place .has-room) (x .not-back) (x .not-late) (site .breaker .pair) (node .phase) (x .in-phase)
-      fits)
-  done (Down i) e = λ b q.
-      let ok = done-passed _ refl e in
-      let p = placed site (length records) (getD records i wentDown) i true (each-passed 0 _ ok) (each-passed 1 _ ok) (each-passed 2 _ ok) in
-      at-node b (accepted h) site records (before b q) i (doneWith (Down i) silence) _ wentDown (λ j. refl) p refl refl refl (λ k A T known. inr known)
-      (keeps-down (site .f) i (atNode i (accepted h)) silence)
-  done (Up i) e = λ b q.
-      let ok = done-passed _ refl e in
-      let p = placed site (length records) (getD records i wentDown) i true (each-passed 0 _ ok) (each-passed 1 _ ok) (each-passed 2 _ ok) in
-      at-node b (accepted h) site records (before b q) i (doneWith (Up i) silence) _ wentUp (λ j. refl) p refl refl refl (λ k A T known. inr known)
-      (keeps-up (site .f) i (atNode i (accepted h)) silence)
+      let s = shared (site .breaker) node i (site .f) t event A T (x .not-late) told in
+      (s .1, said-last (site .f) i (site .breaker) (node .store) (atNode i (accepted h)) (nextNumber h) t event (x .place .has-room) (x .not-back) (x .not-late) d is says (node .phase) fits A (s .0)))
+      (keeps-event (site .f) i (site .breaker) (node .store) (atNode i (accepted h)) (nextNumber h) t event (x .place .has-room) (x .not-back) (x .not-late) d is says (node .phase) up fits)
+
+  takes-turn : (i : ℕ) (turn : Turn) → Does (Life i turn)
+  unfolding effectOf turned
+  takes-turn i Down e = λ b q.
+      at-node b (accepted h) site records (before b q) i (doneWith (nextNumber h) (Life i Down) silence) _ wentDown (λ j. refl)
+      (turns site (length records) (nodeOf (Life i Down)) i Down e) refl refl refl (λ k A T known. inr known) (fits-down (site .f) i _ refl)
+  takes-turn i Up e = λ b q.
+      at-node b (accepted h) site records (before b q) i (doneWith (nextNumber h) (Life i Up) silence) _ wentUp (λ j. refl)
+      (turns site (length records) (nodeOf (Life i Up)) i Up e) refl refl refl (λ k A T known. inr known) (fits-up (site .f) i _ refl)
+
+  is-told : (t : Dts) (command : Act) → Does (AtBreaker t command)
+  unfolding effectOf commanded
+  is-told t command e = λ b q. elsewhere b (accepted h) site records (before b q) _ _ (λ j. refl) refl refl refl (λ i A U held-now. held-now)
+
+  done : (step : Step) → Does step
+  done (Start b) = begins-anew b
+  done Tick = ticks
+  done (AtNode i t event) = happens-at i t event
+  done (Life i turn) = takes-turn i turn
+  done (AtBreaker t command) = is-told t command
 
   pub kept : (step : Step) → KeptBy step (outOf site records step)
   unfolding outOf
@@ -165,11 +191,8 @@ module _ (h : List Entry) (site : Site) (records : List Node) (before : (b : Beg
 
 -- where nothing has happened there was no Start
 pub no-start : {b : Beginning} → none ≡ some b → ⊥
+unfolding there
 no-start q = false≢true (ap there q)
-  where
-    there : Option Beginning → Bool
-    there none = false
-    there (some b) = true
 
 pub reached-keeps : {first : Moment} {h : List Entry} {m : Moment} → Reached first h m → (b : Beginning) → lastStart h ≡ some b → Keeps b (accepted h) (m .site) (m .records)
 unfolding tableAfter

@@ -3,14 +3,13 @@
 use Prim.Native.Nat.{ℕ}
 use mathlib.Core.Path.{_≡_, refl, sym, ap, subst, _∙_}
 use mathlib.Core.Bool.{Bool, true, false≢true}
-use mathlib.Core.List.{_∷_, _++_}
+use mathlib.Core.List.{[], _∷_, _++_}
 use lib.Dec.{eqb}
 use lib.ListN.{length}
 use borrow.Author.Tests.{eq-eqb}
 use Rattle.time.specs.declared.Dts.{Dts}
 use Rattle.pairs.specs.declared.Known.the-variants.{Yes}
 use Rattle.pairs.specs.declared.Pairs.the-variants.{Zero}
-use Rattle.steps.specs.declared.Step.the-variants.{Command}
 use Rattle.site.specs.declared.Out.{Out}
 use Rattle.site.specs.declared.Answer.{Answer}
 use Rattle.site.specs.declared.Answer.the-variants.{Done}
@@ -18,9 +17,10 @@ use Rattle.site.specs.Answers.{isDone}
 use Rattle.effects.specs.Effects.{onlyAck, effectOf}
 use Rattle.effects.specs.CommandLaws.{repeat-done}
 use Rattle.lent.specs.Lent.{recordOf, outOf, tableAfter, tableAfterAnswer}
-use Rattle.steps.specs.Actor.{actor}
+use Rattle.steps.specs.Named.{named}
+use Rattle.rows.specs.Rows.{commands}
 use Rattle.stepping.specs.StepLaws.{by-tests}
-use Rattle.sequences.specs.History.{Change, accepted, unlessHad, changesIn}
+use Rattle.sequences.specs.History.{Change, nextNumber, accepted, unlessHad, changesIn}
 use Rattle.sequences.specs.Moments.{Moment, Accepts, answerTo, afterStep, entry}
 use Rattle.sequences.specs.Demand.{Always}
 use Rattle.sequences.specs.Changing.{reached-changing}
@@ -46,16 +46,16 @@ clockMoved m t =
 -- is sent, and of the site and the table the breaker's clock alone moves.
 abbrev pub RepeatAnswered : Type 0
 RepeatAnswered =
-    (m : Moment) (t : Dts) (A : ℕ) (T : Dts) → A ≡ m .site .breaker .pair .status → Accepts m (Command t A T)
-    → (answerTo m (Command t A T) ≡ Done (record { shares = Zero; commands = Zero; ack = Yes (m .site .breaker .pair) }))
-    × (afterStep m (Command t A T) ≡ clockMoved m t)
+    (m : Moment) (t : Dts) (A : ℕ) (T : Dts) → A ≡ m .site .breaker .pair .status → Accepts m (commands t A T)
+    → (answerTo m (commands t A T) ≡ Done (record { shares = Zero; commands = Zero; ack = Yes (m .site .breaker .pair) }))
+    × (afterStep m (commands t A T) ≡ clockMoved m t)
 
 -- "This is not an accepted change in demand 3": in every sequence the changes after it are those before it.
 abbrev pub RepeatNoChange : Type 0
 RepeatNoChange =
     Always λ h m b.
-    (t : Dts) (A : ℕ) (T : Dts) → A ≡ m .site .breaker .pair .status → Accepts m (Command t A T)
-    → changesIn (b .status) (accepted (entry m (Command t A T) ∷ h)) ≡ changesIn (b .status) (accepted h)
+    (t : Dts) (A : ℕ) (T : Dts) → A ≡ m .site .breaker .pair .status → Accepts m (commands t A T)
+    → changesIn (b .status) (accepted (entry m (commands t A T) ∷ h)) ≡ changesIn (b .status) (accepted h)
 
 -- ---- proofs
 
@@ -63,20 +63,20 @@ abbrev AnsweredBy : Moment → Dts → ℕ → Dts → Out → Type 0
 AnsweredBy m t A T out =
     isDone (out .answer) ≡ true
     → (out .answer ≡ Done (onlyAck (m .site .breaker .pair)))
-    × (record { site = out .site; records = tableAfterAnswer (out .answer) (Command t A T) (m .records) (out .node) } ≡ clockMoved m t)
+    × (record { site = out .site; records = tableAfterAnswer (out .answer) (commands t A T) (m .records) (out .node) } ≡ clockMoved m t)
 
 pub repeat-answered : RepeatAnswered
 unfolding outOf tableAfter effectOf
 repeat-answered m t A T same =
-    by-tests (AnsweredBy m t A T) (m .site) (length (m .records)) (recordOf (actor (Command t A T)) (m .records)) (Command t A T)
-    (λ e. subst (AnsweredBy m t A T) (sym (repeat-done (m .site) (recordOf (actor (Command t A T)) (m .records)) t A T (eq-eqb _ _ same))) (λ done. (refl, refl)))
+    by-tests (AnsweredBy m t A T) (m .site) (length (m .records)) (recordOf (named (commands t A T) .actor) (m .records)) (commands t A T)
+    (λ e. subst (AnsweredBy m t A T) (sym (repeat-done (m .site) (recordOf (named (commands t A T) .actor) (m .records)) t A T (eq-eqb _ _ same))) (λ done. (refl, refl)))
     (λ number done. absurd (false≢true done))
 
 pub repeat-no-change : RepeatNoChange
 repeat-no-change first h m r b q t A T same done =
-    ap (λ (answer : Answer). changesIn (b .status) (accepted (record { step = Command t A T; answer = answer } ∷ h))) (repeat-answered m t A T same done .0)
+    ap (λ (answer : Answer). changesIn (b .status) (accepted (record { step = commands t A T; answer = answer } ∷ h))) (repeat-answered m t A T same done .0)
     ∙ ap (λ (had : Bool). unlessHad had change ++ changesIn (b .status) (accepted h))
     (ap (λ (had : ℕ). eqb A had) (sym (reached-changing r b q .status)) ∙ eq-eqb _ _ same)
   where
     change : Change
-    change = record { action = A; stamp = T; acked = Yes (m .site .breaker .pair); before = accepted h }
+    change = record { number = nextNumber h; action = A; stamp = T; acked = Yes (m .site .breaker .pair); before = accepted h }

@@ -6,12 +6,13 @@ use lib.Dec.{eqb}
 use borrow.Author.Tests.{eq-eqb, ne-eqb, eqb-true}
 use Rattle.refusals.specs.Tests.{refusal}
 use Rattle.steps.specs.declared.Step.{Step}
-use Rattle.steps.specs.declared.Step.the-variants.{Start, Tick, Report, Deliver, ShareTimeout, ResendTimeout, Command, Ack, Query, Down, Up}
+use Rattle.steps.specs.declared.Step.the-variants.{Start, Tick, AtNode, Life, AtBreaker}
+use Rattle.steps.specs.declared.Turn.the-variants.{Down, Up}
 use Rattle.node.specs.declared.Node.{Node}
 use Rattle.site.specs.declared.Site.{Site}
 use Rattle.site.specs.declared.Out.{Out}
 use Rattle.site.specs.Answers.{refused, isDone}
-use Rattle.effects.specs.Effects.{act, commanded, effectOf}
+use Rattle.effects.specs.Effects.{act, commanded, turned, effectOf}
 use Rattle.refusing.specs.Tests.{testsOf}
 use Rattle.stepping.specs.Steps.{decided, stepped}
 
@@ -37,15 +38,10 @@ by-tests P site lent node step done fails = go (eqb (refusal (testsOf site lent 
     go false e = fails (refusal (testsOf site lent node step))
 
 pub effect-done : (site : Site) (node : Node) (step : Step) → isDone (effectOf site node step .answer) ≡ true
-unfolding effectOf act commanded
-effect-done site node (Start f k compromised status g) = refl
+unfolding effectOf act turned commanded
+effect-done site node (Start b) = refl
 effect-done site node Tick = refl
-effect-done site node (Report i t status number) = refl
-effect-done site node (Deliver sender i t status T) = refl
-effect-done site node (ShareTimeout i t) = refl
-effect-done site node (ResendTimeout i t) = refl
-effect-done site node (Command t status T) = refl
-effect-done site node (Ack i t back) = refl
-effect-done site node (Query i t) = refl
-effect-done site node (Down i) = refl
-effect-done site node (Up i) = refl
+effect-done site node (AtNode i t event) = refl
+effect-done site node (Life i Down) = refl
+effect-done site node (Life i Up) = refl
+effect-done site node (AtBreaker t command) = refl

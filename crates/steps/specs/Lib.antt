@@ -1,2 +1,2 @@
--- The node that a step names.
-pub mod Actor
+-- What a step is, and what it names.
+pub mod Named

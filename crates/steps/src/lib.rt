@@ -1,117 +1,61 @@
-// The steps that a site takes, with their fields in document 01's order. A step is only what is asked for: the site says whether it
-// is done or refused, and a log how it is written down.
+// The steps that a site takes, in five shapes: a Start, a Tick, an event at a node at its clock, a turn in a node's life, something said to the
+// breaker at its clock. A step is only what is asked for: the site says whether it is done or refused, and a log how it is written down.
 use time::Dts;
 ghost use mathlib.Core.Path.{_≡_};
-ghost use Rattle.steps.specs.Actor.{actor, actorOr0, asActor};
+ghost use Rattle.steps.specs.Named.{named, actorOr0};
+
+// What a Start gives.
+pub struct Beginning {
+    pub f: u8,
+    pub k: u8,
+    pub compromised: u16,
+    pub status: u8,
+    pub g: Dts,
+}
+
+// What happens at a node, at its clock. A Deliver is at its receiver.
+pub enum Event {
+    Report { status: u8, number: u32 },
+    Deliver { sender: u8, status: u8, stamp: Dts },
+    ShareTimeout,
+    ResendTimeout,
+    Ack { back: u8 },
+    Query,
+}
+
+// A turn in a node's life: no clock is read.
+pub enum Turn {
+    Down,
+    Up,
+}
+
+// What is said to the breaker, at its clock: a command. (Fields of an enum of one case are bound by no `match` here; with a second act it becomes one.)
+pub struct Act {
+    pub status: u8,
+    pub stamp: Dts,
+}
 
 pub enum Step {
-    Start {
-        f: u8,
-        k: u8,
-        compromised: u16,
-        status: u8,
-        g: Dts,
-    },
     Tick,
-    Report {
-        node: u8,
-        t: Dts,
-        status: u8,
-        number: u32,
-    },
-    Deliver {
-        sender: u8,
-        receiver: u8,
-        t: Dts,
-        status: u8,
-        stamp: Dts,
-    },
-    ShareTimeout {
-        node: u8,
-        t: Dts,
-    },
-    ResendTimeout {
-        node: u8,
-        t: Dts,
-    },
-    Command {
-        t: Dts,
-        status: u8,
-        stamp: Dts,
-    },
-    Ack {
-        node: u8,
-        t: Dts,
-        back: u8,
-    },
-    Query {
-        node: u8,
-        t: Dts,
-    },
-    Down {
-        node: u8,
-    },
-    Up {
-        node: u8,
-    },
+    Start(Beginning),
+    AtNode { node: u8, t: Dts, event: Event },
+    Life { node: u8, turn: Turn },
+    AtBreaker { t: Dts, act: Act },
 }
 
-pub enum Actor {
-    Node(u8),
-    Nobody,
-}
-
-// The node that a step names: for Deliver, the receiver.
-pub fn actor_of(step: Step) -> Actor
-    ensures { λ out. ⌜ out ≡ asActor (actor step) ⌝ }
+// The number of the node that a step names (for Deliver, the receiver), and 0 where it names none.
+pub fn node_of(step: Step) -> u8
+    ensures { λ out. ⌜ out ≡ actorOr0 (named step .actor) ⌝ }
 {
     match step {
-        Step::Report {
+        Step::AtNode {
             node: i,
             t: _,
-            status: _,
-            number: _,
-        } => Actor::Node(i),
-        Step::Deliver {
-            sender: _,
-            receiver: i,
-            t: _,
-            status: _,
-            stamp: _,
-        } => Actor::Node(i),
-        Step::ShareTimeout { node: i, t: _ } => Actor::Node(i),
-        Step::ResendTimeout { node: i, t: _ } => Actor::Node(i),
-        Step::Ack {
-            node: i,
-            t: _,
-            back: _,
-        } => Actor::Node(i),
-        Step::Query { node: i, t: _ } => Actor::Node(i),
-        Step::Down { node: i } => Actor::Node(i),
-        Step::Up { node: i } => Actor::Node(i),
-        Step::Start {
-            f: _,
-            k: _,
-            compromised: _,
-            status: _,
-            g: _,
-        } => Actor::Nobody,
-        Step::Tick => Actor::Nobody,
-        Step::Command {
-            t: _,
-            status: _,
-            stamp: _,
-        } => Actor::Nobody,
-    }
-}
-
-// Its number, and 0 where a step names none.
-pub fn node_of(step: Step) -> u8
-    ensures { λ out. ⌜ out ≡ actorOr0 (actor step) ⌝ }
-{
-    let actor = actor_of(step);
-    match actor {
-        Actor::Node(i) => i,
-        Actor::Nobody => 0,
+            event: _,
+        } => i,
+        Step::Life { node: i, turn: _ } => i,
+        Step::Start(_) => 0,
+        Step::Tick => 0,
+        Step::AtBreaker { t: _, act: _ } => 0,
     }
 }

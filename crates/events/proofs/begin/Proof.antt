@@ -5,21 +5,13 @@ use Rattle.events.proofs.begin.Tie as tie
 use Rattle.events.proofs.begin.Reads as reads
 use Rattle.events.proofs.begin.Lts as lts
 use Rattle.events.proofs.join.Reads as join-reads
-use Rattle.events.proofs.sends_nothing.Reads as sends-nothing-reads
-use Rattle.store.proofs.Store.empty.Reads as empty-reads
 
 join-requires : tie.Need-join-requires
 join-requires c κs = search needs
 
-empty-requires : tie.Need-empty-requires
-empty-requires c κs = search needs
-
-sends-nothing-requires : tie.Need-sends-nothing-requires
-sends-nothing-requires c κs = search needs
-
 returns : tie.Need-returns
 unfolding begun
-returns c = simp (c .sends-nothing .ensures, c .before .empty .ensures, c .before .before .join .ensures)
+returns c = simp (c .join .ensures)
 
 pub begin-spec : {M : Type 1} → statement M
-begin-spec = tie.close (tie.spec join-requires empty-requires sends-nothing-requires returns)
+begin-spec = tie.close (tie.spec join-requires returns)

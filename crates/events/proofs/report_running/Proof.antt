@@ -6,8 +6,6 @@ use Rattle.events.proofs.report_running.Reads as reads
 use Rattle.events.proofs.report_running.Lts as lts
 use Rattle.events.proofs.keep_resend.Reads as keep-resend-reads
 use Rattle.events.proofs.report_shares.Reads as report-shares-reads
-use Rattle.events.proofs.running.Reads as running-reads
-use Rattle.store.proofs.Store.move_to.Reads as move-to-reads
 
 keep-resend-requires : tie.Need-keep-resend-requires
 keep-resend-requires c κs = search needs
@@ -15,22 +13,9 @@ keep-resend-requires c κs = search needs
 report-shares-requires : tie.Need-report-shares-requires
 report-shares-requires c κs = search needs
 
-move-to-requires : tie.Need-move-to-requires
-move-to-requires c κs = search needs
-
-running-requires : tie.Need-running-requires
-running-requires c κs = search needs
-
 returns : tie.Need-returns
 unfolding reportRunning
-returns c = simp (c .running .ensures, c .before .move-to .ensures, c .before .before .report-shares .ensures, c .before .before .before .keep-resend .ensures)
+returns c = simp (c .report-shares .ensures, c .before .keep-resend .ensures)
 
 pub report-running-spec : {M : Type 1} → statement M
-report-running-spec =
-    tie.close
-    (tie.spec
-    keep-resend-requires
-    report-shares-requires
-    move-to-requires
-    running-requires
-    returns)
+report-running-spec = tie.close (tie.spec keep-resend-requires report-shares-requires returns)

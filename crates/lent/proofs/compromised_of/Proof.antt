@@ -1,14 +1,19 @@
-use borrow.Author.Needs.{needs}
 use Rattle.lent.proofs.Others.{no-start}
+use borrow.Author.Needs.{needs}
 use Rattle.lent.proofs.compromised_of.Statement.{statement}
 use Rattle.lent.proofs.compromised_of.Tie as tie
+use Rattle.lent.proofs.compromised_of.Reads as reads
+use Rattle.lent.proofs.compromised_of.Lts as lts
 
+-- src/lib.rt:71:21
 enum-known-step : tie.Need-enum-known-step
 enum-known-step c = search needs
 
+-- src/lib.rt:67:1
 returns : tie.Need-returns
-returns c = simp (c .before .step .given .1)
+returns c = search needs
 
+-- src/lib.rt:67:1
 returns-2 : tie.Need-returns-2
 returns-2 c = no-start (c .before .args .step) (c .match .keys2) .1
 

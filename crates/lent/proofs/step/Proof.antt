@@ -44,7 +44,7 @@ use Rattle.site.specs.declared.Site.{Site}
 use Rattle.site.specs.declared.Answer.{Answer}
 use Rattle.lent.specs.declared.Told.{Told}
 use Rattle.lent.specs.Lent.{firstRecords}
-use Rattle.steps.specs.Actor.{actor}
+use Rattle.steps.specs.Named.{named as what}
 use Rattle.lent.specs.InTurn.{indexOf, beginsOf, compromisedOf}
 use Rattle.lent.specs.Lent.{Said}
 use Rattle.lent.specs.TurnLaws.{SaidAt, asked, all-said}
@@ -100,8 +100,8 @@ module _ {M : Type 1} (𝓤 : URA M) (H : Heap 𝓤) (A : Atoms 𝓤) (mem : Mem
   abbrev Place : Contract 𝓤
   Place = tripleOf 𝓤 H A place.signature (place.spec 𝓤 H A mem run)
 
-  place-of : (x : Step) (len : ℕ) (r : ℕ) → ent 𝓤 (ensured 𝓤 H A place.ended (place.clauses 𝓤 H A mem run) tt (x, (len, tt)) tt r) (fact 𝓤 (r ≡ indexOf (actor x) len))
-  place-of x len r = exE 𝓤 _ (λ ws. snd∗ 𝓤 (sem 𝓤 H A (lasts place.ended tt (x, (len, tt)) ws)) (fact 𝓤 (r ≡ indexOf (actor x) len)))
+  place-of : (x : Step) (len : ℕ) (r : ℕ) → ent 𝓤 (ensured 𝓤 H A place.ended (place.clauses 𝓤 H A mem run) tt (x, (len, tt)) tt r) (fact 𝓤 (r ≡ indexOf (what x .actor) len))
+  place-of x len r = exE 𝓤 _ (λ ws. snd∗ 𝓤 (sem 𝓤 H A (lasts place.ended tt (x, (len, tt)) ws)) (fact 𝓤 (r ≡ indexOf (what x .actor) len)))
 
   abbrev Begins : Contract 𝓤
   Begins = tripleOf 𝓤 H A begins.signature (begins.spec 𝓤 H A mem run)
@@ -178,7 +178,7 @@ module _ {M : Type 1} (𝓤 : URA M) (H : Heap 𝓤) (A : Atoms 𝓤) (W : Given
         -- [the locals; obs; the borrow; the token]
         sets ! 0 (of-opd ! (fvar ! 0 refl refl refl)) refl (tt, record { fits = room .0 }) $
         calls-by ! fm (Place 𝓤 H A mem run) known-place to-place (asks W (E.the-row ∷ usize ∷ []) (LE.makes E.the-type E′.the-plain 𝓤 H A, (uint-makes 𝓤 H A W w64, tt)) (x, (length ys, tt)) _ (x-is, ((refl, room .0), tt)))
-        usize (ensured 𝓤 H A place.ended (place.clauses 𝓤 H A mem run) tt (x, (length ys, tt)) tt) (λ i. i ≡ indexOf (actor x) (length ys)) (λ w. id⊢ 𝓤 _) (place-of 𝓤 H A mem run x (length ys)) (and-then ! (var ! 1 refl) (and-then ! (var ! 1 refl) (no-more !))) (λ wi i ei i-is. drop ! $
+        usize (ensured 𝓤 H A place.ended (place.clauses 𝓤 H A mem run) tt (x, (length ys, tt)) tt) (λ i. i ≡ indexOf (what x .actor) (length ys)) (λ w. id⊢ 𝓤 _) (place-of 𝓤 H A mem run x (length ys)) (and-then ! (var ! 1 refl) (and-then ! (var ! 1 refl) (no-more !))) (λ wi i ei i-is. drop ! $
         lands-told ! 0 refl (uint-lawful 𝓤 H A W w64 .typed i _ i-is .0) (i-is .0) $
         sets ! 0 (addr ! (from ! (fld ! refl (hop ! (look-in ! 22 (sub ! 0 refl (whole !))) (stop !))))) refl (tt, tt) $
         sets ! 0 (agg ! (and-then ! (var ! 0 refl) (and-then ! (fvar ! 0 refl refl refl) (no-more !)))) refl (tt, (tt, (record { fits = room .0 }, tt))) $

@@ -1,5 +1,6 @@
+use mathlib.Core.Path.{_∙_}
+use Rattle.refusing.specs.Parts.{start-alone}
 use Rattle.refusing.proofs.Others.{no-start}
-use Rattle.refusing.specs.Tests.{testsOf}
 use borrow.Author.Needs.{needs}
 use Rattle.refusing.proofs.refuse.Statement.{statement}
 use Rattle.refusing.proofs.refuse.Tie as tie
@@ -8,19 +9,23 @@ use Rattle.refusing.proofs.refuse.Lts as lts
 use Rattle.refusing.proofs.refuse_other.Reads as refuse-other-reads
 use Rattle.refusing.proofs.refuse_start.Reads as refuse-start-reads
 
+-- src/lib.rt:277:21
 enum-known-step : tie.Need-enum-known-step
 enum-known-step c = search needs
 
+-- src/lib.rt:277:35
 refuse-start-requires : tie.Need-refuse-start-requires
 refuse-start-requires c κs = search needs
 
+-- src/lib.rt:278:14
 refuse-other-requires : tie.Need-refuse-other-requires
 refuse-other-requires c κs = search needs
 
+-- src/lib.rt:273:1
 returns : tie.Need-returns
-unfolding testsOf
-returns c = rw (c .before .before .step .given .1) (c .refuse-start .ensures)
+returns c = rw (c .before .before .step .given .1) (c .refuse-start .ensures ∙ start-alone _ _ _ _)
 
+-- src/lib.rt:273:1
 returns-2 : tie.Need-returns-2
 returns-2 c =
     let a = c .before .before .args in
