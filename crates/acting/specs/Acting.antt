@@ -23,13 +23,13 @@ ackedBy phase (Yes change) = acked phase change
 ackedBy phase No = unchanged phase
 
 -- what an event makes of the phase that it finds
-unfoldable pub changed : Breaker → Phase → Dts → Event → Changed
-changed breaker phase t (Report status number) = reported phase t status number
-changed breaker phase t (Deliver sender status T) = unchanged phase
-changed breaker phase t ShareTimeout = shareTimedOut phase t
-changed breaker phase t ResendTimeout = resendTimedOut phase
-changed breaker phase t (Ack back) = ackedBy phase (changeAt breaker back)
-changed breaker phase t Query = queried phase (breaker .pair)
+unfoldable pub changedBy : Breaker → Phase → Dts → Event → Changed
+changedBy breaker phase t (Report status number) = reported phase t status number
+changedBy breaker phase t (Deliver sender status T) = unchanged phase
+changedBy breaker phase t ShareTimeout = shareTimedOut phase t
+changedBy breaker phase t ResendTimeout = resendTimedOut phase
+changedBy breaker phase t (Ack back) = ackedBy phase (changeAt breaker back)
+changedBy breaker phase t Query = queried phase (breaker .pair)
 
 -- the store at the clock of an event, with the share that it delivers: Deliver "Stores the share, in every running state."
 unfoldable pub stored : Phase → Store → Dts → Event → Store
@@ -42,4 +42,4 @@ stored phase store t Query = storeAt phase store t
 
 -- an event at node i of a site whose threshold is f + 1
 unfoldable pub acted : Breaker → Node → ℕ → ℕ → Dts → Event → Acted
-acted breaker node i f t event = finished (changed breaker (node .phase) t event) (stored (node .phase) (node .store) t event) i f
+acted breaker node i f t event = finished (changedBy breaker (node .phase) t event) (stored (node .phase) (node .store) t event) i f

@@ -1,10 +1,4 @@
 -- An event at a node, to its end (Acting), what is shown of each event (ByEvent), and what holds of every event: what it leaves of r (Relay), what it
 -- shares (Shares), whether the node runs then (Running), what b moves to (Moving), what the store holds (Stores), and what a report leaves (Reports).
 pub mod Acting
-pub mod ByEvent
-pub mod Relay
-pub mod Shares
-pub mod Running
-pub mod Moving
-pub mod Stores
-pub mod Reports
+pub mod laws

@@ -9,7 +9,7 @@ use steps::Event;
 use store::Store;
 use time::Dts;
 ghost use mathlib.Core.Path.{_≡_};
-ghost use Rattle.acting.specs.Acting.{ackedBy, changed, stored, acted};
+ghost use Rattle.acting.specs.Acting.{ackedBy, changedBy, stored, acted};
 
 // An ack brings a change, if it is remembered.
 fn ack(phase: Phase, change: Known) -> Changed
@@ -23,7 +23,7 @@ fn ack(phase: Phase, change: Known) -> Changed
 
 // What an event makes of the phase that it finds.
 fn change(breaker: Breaker, phase: Phase, t: Dts, event: Event) -> Changed
-    ensures { λ out. ⌜ out ≡ changed breaker phase t event ⌝ }
+    ensures { λ out. ⌜ out ≡ changedBy breaker phase t event ⌝ }
 {
     match event {
         Event::Report { status, number } => events::report(phase, t, status, number),

@@ -1,3 +1,3 @@
 -- The breaker and its changes (Breaker), and what an accepted command leaves of them (CommandLaws).
 pub mod Breaker
-pub mod CommandLaws
+pub mod laws

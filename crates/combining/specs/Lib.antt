@@ -1,4 +1,3 @@
 -- The combining rule and the end of an event (Combining), what the rule leaves (CombiningLaws), and what is held once own shares are put (OwnLaws).
 pub mod Combining
-pub mod CombiningLaws
-pub mod OwnLaws
+pub mod laws

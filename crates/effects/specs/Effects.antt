@@ -1,6 +1,6 @@
 -- What each step does once its tests are passed: the site and the acting node's record afterwards, and what is sent.
 use Prim.Native.Nat.{ℕ}
-use mathlib.Core.Bool.{true, cond}
+use mathlib.Core.Bool.{true, false, cond}
 use Rattle.time.specs.declared.Dts.{Dts}
 use Rattle.time.specs.Fresh.{next}
 use Rattle.senders.specs.Masks.{isIn, joined, without}
@@ -68,6 +68,19 @@ withBreaker site breaker =
     }
 
 -- ---- the steps
+
+-- a site that is not started
+abbrev pub noSite : Site
+noSite =
+    record {
+      started = false;
+      f = 0;
+      k = 0;
+      compromised = 0;
+      down = 0;
+      breaker = started 0 (record { 0 = 0 });
+      made = empty (record { 0 = 0 });
+    }
 
 -- "A later accepted Start replaces everything, as in a new process."
 unfoldable pub startedSite : Beginning → Site

@@ -1,3 +1,3 @@
 -- What each step does (Effects), and what an accepted command does (CommandLaws).
 pub mod Effects
-pub mod CommandLaws
+pub mod laws

@@ -16,7 +16,7 @@ use store::Store;
 use time::Dts;
 ghost use mathlib.Core.Path.{_≡_};
 ghost use Rattle.site.specs.Answers.{done, silence};
-ghost use Rattle.effects.specs.Effects.{withMade, withDown, withBreaker, startedSite, firstRecord, ticked, act, commanded, turned, effectOf};
+ghost use Rattle.effects.specs.Effects.{withMade, withDown, withBreaker, noSite, startedSite, firstRecord, ticked, act, commanded, turned, effectOf};
 
 fn done(sent: Sent, site: Site, node: Node) -> Out
     ensures { λ out. ⌜ out ≡ done sent site node ⌝ }
@@ -80,6 +80,23 @@ fn act(site: Site, node: Node, i: u8, t: Dts, event: Event) -> Out
         ack: Known::No,
     };
     done(sent, next, after)
+}
+
+// What there is before a Start.
+pub fn no_site() -> Site
+    ensures { λ out. ⌜ out ≡ noSite ⌝ }
+{
+    let breaker = breaker::start(0, Dts(0));
+    let made = Store::empty(Dts(0));
+    Site {
+        started: false,
+        f: 0,
+        k: 0,
+        compromised: 0,
+        down: 0,
+        breaker,
+        made,
+    }
 }
 
 // The site that a Start makes.

@@ -1,4 +1,3 @@
 -- What each event makes of a node (Events), what it leaves (EventLaws), and what a report leaves and shares (ReportLaws).
 pub mod Events
-pub mod EventLaws
-pub mod ReportLaws
+pub mod laws

@@ -40,8 +40,7 @@ fn set_in(n: [Node; 12]) -> u64 {
 
 // A Start with so many records of nodes that are down.
 fn start_with(f: u8, k: u8, count: usize) -> Site {
-    let run = run::begin();
-    let site = run.site;
+    let site = effects::no_site();
     let down = events::down();
     let step = Step::Start(Beginning {
         f,

@@ -7,7 +7,7 @@ use denote.Enum.Declared.{tagOf}
 use Rattle.steps.specs.declared.Step.{Step}
 use Rattle.steps.specs.declared.Step.the-variants.{Start, Tick, AtNode, Life, AtBreaker}
 use Rattle.steps.proofs.Step.{the-type}
-use Rattle.lent.specs.InTurn.{startsOf, compromisedOf}
+use Rattle.lent.specs.laws.InTurn.{startsOf, compromisedOf}
 
 abbrev others : List ℕ
 others = 0 ∷ 2 ∷ 3 ∷ 4 ∷ []

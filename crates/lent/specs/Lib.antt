@@ -1,5 +1,3 @@
 -- The lent table.
 pub mod Lent
-pub mod InTurn
-pub mod LentLaws
-pub mod TurnLaws
+pub mod laws

@@ -11,7 +11,7 @@ ghost use Rattle.events.specs.Events.{wentDown};
 ghost use Rattle.effects.specs.Effects.{firstRecord};
 ghost use Rattle.lent.specs.Lent.{firstRecords, Said, SaidWithin};
 ghost use Rattle.steps.specs.Named.{named};
-ghost use Rattle.lent.specs.InTurn.{indexOf, startsOf, beginsOf, compromisedOf, outAt};
+ghost use Rattle.lent.specs.laws.InTurn.{indexOf, startsOf, beginsOf, compromisedOf, outAt};
 
 // What a step says to its caller, beside the table that it leaves.
 pub struct Told {

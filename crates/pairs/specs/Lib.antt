@@ -1,3 +1,3 @@
 -- Statuses with their stamps.
 pub mod Pair
-pub mod KnownLaws
+pub mod laws

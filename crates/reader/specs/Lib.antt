@@ -1,3 +1,3 @@
 -- What a reader gives.
 pub mod Reading
-pub mod ReadLaws
+pub mod laws

@@ -1,4 +1,3 @@
 -- A step's tests, the first that fails, and what a promise settles.
-pub mod Bools
 pub mod Tests
-pub mod Settled
+pub mod laws

@@ -12,7 +12,7 @@ use Rattle.node.specs.declared.Node.{Node}
 use Rattle.site.specs.declared.Site.{Site}
 use Rattle.site.specs.Site.{siteSound}
 use Rattle.refusing.specs.Tests.{testsOf}
-use Rattle.refusing.specs.Parts.{soundTests, cut-tick, cut-event, cut-turn, cut-act}
+use Rattle.refusing.specs.laws.Parts.{soundTests, cut-tick, cut-event, cut-turn, cut-act}
 
 abbrev not-start : List ℕ
 not-start = 0 ∷ 2 ∷ 3 ∷ 4 ∷ []

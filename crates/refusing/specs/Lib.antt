@@ -1,5 +1,3 @@
 -- The table of refusals (Tests), its parts (Parts), and what the tests of an accepted step (Accepted) and command (CommandLaws) say.
 pub mod Tests
-pub mod Parts
-pub mod Accepted
-pub mod CommandLaws
+pub mod laws

@@ -28,7 +28,7 @@ ghost use mathlib.Core.List.{[], _∷_};
 ghost use Rattle.refusals.specs.Tests.{refusal};
 ghost use Rattle.site.specs.Site.{siteSound};
 ghost use Rattle.refusing.specs.Tests.{isNow, isNode, verdict, canDeliver, canBegin, testsOf};
-ghost use Rattle.refusing.specs.Parts.{whoTests, whenTests, shareTests, asked, commandFirst, commandLast, actTests, soundTests};
+ghost use Rattle.refusing.specs.laws.Parts.{whoTests, whenTests, shareTests, asked, commandFirst, commandLast, actTests, soundTests};
 
 // What is asked of one event: 2 of its fields, 4 of the node's phase, and the refusal of its own tests.
 struct Asked {

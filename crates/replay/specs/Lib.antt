@@ -2,6 +2,5 @@
 -- and that it does not matter how a log is cut into blocks (Leading, Cutting).
 pub mod Replay
 pub mod Promised
-pub mod Leading
-pub mod Cutting
 pub mod Example
+pub mod laws

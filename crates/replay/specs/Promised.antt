@@ -17,9 +17,9 @@ use Rattle.run.specs.Blocks.{ranOf, Block}
 use Rattle.sequences.specs.History.{Entry, lastStart}
 use Rattle.sequences.specs.Moments.{Reached, from, Accepts}
 use Rattle.sequences.specs.Demand.{AtMostF, StatusAsTold, SharedByACorrectNode, StampsRise, RunsAsTold, HeldExactly, NoneLeft, MovedBySending}
-use Rattle.sequences.specs.Started.{started-before}
-use Rattle.sequences.specs.Sending.{moved-by-sending}
-use Rattle.sequences.specs.Proved.{at-most-f, status-as-told, shared-by-a-correct-node, stamps-rise, runs-as-told, held-exactly, none-left}
+use Rattle.sequences.specs.laws.Started.{started-before}
+use Rattle.sequences.specs.laws.Sending.{moved-by-sending}
+use Rattle.sequences.specs.laws.Proved.{at-most-f, status-as-told, shared-by-a-correct-node, stamps-rise, runs-as-told, held-exactly, none-left}
 use Rattle.replay.specs.Replay.{momentOf, Prints, told, prints-reached, block-prints}
 
 -- the run has come about from its beginning by the steps of this history

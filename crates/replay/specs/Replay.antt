@@ -29,7 +29,7 @@ momentOf run = record { site = run .site; records = run .nodes }
 -- is the one that the log has there, and prints its line; the version byte prints nothing; a malformed record, or version byte, prints its line and
 -- takes no step.
 pub data Prints (log : List ℕ) : Run → ℕ → List Step → List ℕ → Run → ℕ → Type 0 where
-  nothing : {run : Run} {at : ℕ} → Prints log run at [] [] run at
+  no-lines : {run : Run} {at : ℕ} → Prints log run at [] [] run at
   version : {run end : Run} {at to : ℕ} {steps : List Step} {text : List ℕ} (v : ℕ) → openedAs (drop at log) ≡ Version v
       → Prints log (versioned run v) (at + 1) steps text end to → Prints log run at steps text end to
   malformed : {run end : Run} {at to : ℕ} {steps : List Step} {text : List ℕ} → Prints log (overAfter run) at steps text end to
@@ -46,7 +46,7 @@ told m (step ∷ steps) h = told (afterStep m step) steps (entry m step ∷ h)
 pub prints-reached : {first : Moment} {h : List Entry} {log : List ℕ} {run end : Run} {at to : ℕ} {steps : List Step} {text : List ℕ}
     → Prints log run at steps text end to → Reached first h (momentOf run) → Reached first (told (momentOf run) steps h) (momentOf end)
 unfolding applied overAfter
-prints-reached nothing r = r
+prints-reached no-lines r = r
 prints-reached (version v is p) r = prints-reached p r
 prints-reached (malformed p) r = prints-reached p r
 prints-reached (line step next is p) r = prints-reached p (then r step)
@@ -90,7 +90,7 @@ Printed log run at a = (steps : List Step) × Prints log run at steps (a .text) 
 
 onward-prints : (log : List ℕ) (run : Run) (at : ℕ) (next : Next) → Due log run at next → (rest : Run → ℕ → List ℕ → Advance)
     → ((after : Run) (place : ℕ) (text : List ℕ) → Printed log after place (rest after place text)) → Printed log run at (onward (doing run at next) run at rest)
-onward-prints log run at next stops rest more = ([], nothing)
+onward-prints log run at next stops rest more = ([], no-lines)
 onward-prints log run at next breaks rest more = let p = more (overAfter run) at (malformedLine run) in (p .0, malformed (p .1))
 onward-prints log run at next (opens v is) rest more = let p = more (versioned run v) (at + 1) [] in (p .0, version v is (p .1))
 onward-prints log run at next (takes step place is) rest more =
@@ -99,7 +99,7 @@ onward-prints log run at next (takes step place is) rest more =
 
 advanced-prints : (turns : ℕ) (run : Run) (log : List ℕ) (at : ℕ) (last : Bool) (size put : ℕ) → Printed log run at (advanced turns run log at last size put)
 unfolding advanced
-advanced-prints zero run log at last size put = ([], nothing)
+advanced-prints zero run log at last size put = ([], no-lines)
 advanced-prints (suc turns) run log at last size put =
     onward-prints log run at (nextIn (run .version) (run .ended) log at last size put) (due log run at last size put) _
     (λ next place text. advanced-prints turns next log place last size (put + length text))

@@ -13,9 +13,9 @@ use Rattle.node.specs.declared.Node.{Node}
 use Rattle.site.specs.declared.Site.{Site}
 use Rattle.rows.specs.Exactly.{NoneBefore, None}
 use Rattle.rows.specs.Conditions.{StartOutOfRange, OutsideItsRange, ActorCompromised, PhaseDoesNotTake, NeitherNowNorNext, BelowLastClock, NotFresh, NotVouchedFor, ReportNotNew, StampNotAbove, NotArmed, TooFewChanges, EnoughDown, TickAtTheLast, SiteOrRecordOutOfRange, refusalTable}
-use Rattle.rows.specs.Answered.{answeredWith}
-use Rattle.rows.specs.Telling.{kind-is}
-use Rattle.rows.specs.Cases.{told, told-done, told-at-most}
+use Rattle.rows.specs.laws.Answered.{answeredWith}
+use Rattle.rows.specs.laws.Telling.{kind-is}
+use Rattle.rows.specs.laws.Cases.{told, told-done, told-at-most}
 
 -- for every site, number of records that are lent, record of the acting node, and step
 module _ (site : Site) (lent : ℕ) (node : Node) (step : Step) where

@@ -2,14 +2,4 @@
 pub mod History
 pub mod Moments
 pub mod Demand
-pub mod OfEvents
-pub mod Fitting
-pub mod Keeps
-pub mod Reaching
-pub mod Changing
-pub mod Sending
-pub mod Reporting
-pub mod Relay
-pub mod Repeating
-pub mod Started
-pub mod Proved
+pub mod laws

@@ -1,7 +1,6 @@
 -- What a step answers: the number, what is sent, and the site and the record handed back.
 use Prim.Native.Nat.{ℕ}
-use mathlib.Core.Path.{_≡_, refl}
-use mathlib.Core.Bool.{Bool, true, false, false≢true}
+use mathlib.Core.Bool.{Bool, true, false}
 use mathlib.Core.List.{List, [], _++_, map}
 use Rattle.pairs.specs.declared.Pair.{Pair}
 use Rattle.pairs.specs.declared.Known.the-variants.{No}
@@ -42,7 +41,3 @@ done sent site node = record { answer = Done sent; site = site; node = node }
 abbrev pub isDone : Answer → Bool
 isDone (Done sent) = true
 isDone (Refused number) = false
-
-pub done-number : (answer : Answer) → isDone answer ≡ true → numberOf answer ≡ 0
-done-number (Done sent) e = refl
-done-number (Refused number) e = absurd (false≢true e)

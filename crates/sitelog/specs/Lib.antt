@@ -1,4 +1,3 @@
 -- What the program moves (Moving), laws of it, and what it prints (Printing).
 pub mod Moving
-pub mod MovingLaws
-pub mod Printing
+pub mod laws

@@ -1,3 +1,3 @@
 -- Every step (Steps), and what its refusal decides (StepLaws).
 pub mod Steps
-pub mod StepLaws
+pub mod laws

@@ -2,16 +2,6 @@
 -- places (Own), what refusal 16 asks (WithinLaws). Then that the laws fix every answer, for any way of keeping shares (Keeping, Alike), and that the
 -- answers are those of the store as it stood before §2 of 02 (Before, AsBefore). Places, Clearing and Turning are for the proofs of these.
 pub mod Store
-pub mod Places
-pub mod Clearing
 pub mod Held
-pub mod HeldLaws
 pub mod Earliest
-pub mod EarliestLaws
-pub mod Own
-pub mod WithinLaws
-pub mod Keeping
-pub mod Alike
-pub mod Before
-pub mod Turning
-pub mod AsBefore
+pub mod laws

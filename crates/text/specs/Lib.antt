@@ -3,4 +3,4 @@ pub mod Puts
 pub mod Decimal
 pub mod Line
 pub mod Lines
-pub mod LineLaws
+pub mod laws

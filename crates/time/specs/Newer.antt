@@ -1,7 +1,5 @@
 -- "number minus last, wrapping at 32 bits, is 1 to 2,147,483,647"
-use Prim.Native.Nat.{ℕ, _+_, _-_, _%_, _^_, _<_}
-use mathlib.Core.Path.{_≡_}
-use native.Mathlib.Omega.{arith}
+use Prim.Native.Nat.{ℕ, _+_, _-_, _%_, _^_}
 use mathlib.Core.Bool.{Bool, _&&_}
 use lib.Dec.{leb}
 
@@ -11,8 +9,3 @@ ahead number last = (number + (2 ^ 32 - last)) % 2 ^ 32
 
 unfoldable pub newer : ℕ → ℕ → Bool
 newer number last = leb 1 (ahead number last) && leb (ahead number last) 2_147_483_647
-
--- what wraps back to the number is how far ahead it is
-pub ahead-is : (d number last : ℕ) → (d + last) % 2 ^ 32 ≡ number → d < 2 ^ 32 → last < 2 ^ 32 → d ≡ ahead number last
-unfolding ahead
-ahead-is d number last e hd hl = omega arith

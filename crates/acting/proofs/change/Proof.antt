@@ -1,4 +1,4 @@
-use Rattle.acting.specs.Acting.{changed}
+use Rattle.acting.specs.Acting.{changedBy}
 use borrow.Author.Needs.{needs}
 use Rattle.acting.proofs.change.Statement.{statement}
 use Rattle.acting.proofs.change.Tie as tie
@@ -52,27 +52,27 @@ query-requires : tie.Need-query-requires
 query-requires c κs = search needs
 
 returns : tie.Need-returns
-unfolding changed
+unfolding changedBy
 returns c = rw (c .before .before .event .given .1) (c .report .ensures)
 
 returns-2 : tie.Need-returns-2
-unfolding changed
+unfolding changedBy
 returns-2 c = rw (c .before .enum-told .given .1) (c .unchanged .ensures)
 
 returns-3 : tie.Need-returns-3
-unfolding changed
+unfolding changedBy
 returns-3 c = rw (c .before .enum-told2 .given .1) (c .share-timeout .ensures)
 
 returns-4 : tie.Need-returns-4
-unfolding changed
+unfolding changedBy
 returns-4 c = rw (c .before .enum-told3 .given .1) (c .resend-timeout .ensures)
 
 returns-5 : tie.Need-returns-5
-unfolding changed
+unfolding changedBy
 returns-5 c = rw (c .before .before .before .event2 .given .1) (simp (c .ack .ensures, c .before .change-at .ensures))
 
 returns-6 : tie.Need-returns-6
-unfolding changed
+unfolding changedBy
 returns-6 c = rw (c .before .enum-told4 .given .1) (c .query .ensures)
 
 pub change-spec : {M : Type 1} → statement M

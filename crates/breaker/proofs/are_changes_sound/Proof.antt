@@ -1,4 +1,4 @@
-use Rattle.refusals.specs.Bools.{and-assoc, and-true}
+use Rattle.refusals.specs.laws.Bools.{and-assoc, and-true}
 use Rattle.tables.specs.Tables.{table}
 use Rattle.breaker.specs.Breaker.{changesSound}
 use borrow.Author.Needs.{needs}

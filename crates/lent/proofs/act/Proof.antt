@@ -46,8 +46,8 @@ use Rattle.site.specs.declared.Site.{Site}
 use Rattle.site.specs.declared.Out.{Out}
 use Rattle.stepping.specs.Steps.{stepped}
 use Rattle.lent.specs.declared.Told.{Told}
-use Rattle.lent.specs.InTurn.{outAt}
-use Rattle.lent.specs.TurnLaws.{SaidAt}
+use Rattle.lent.specs.laws.InTurn.{outAt}
+use Rattle.lent.specs.laws.TurnLaws.{SaidAt}
 use Rattle.lent.proofs.Walk.{var, fvar, sets, lands, lands-told, ends}
 use Rattle.lent.proofs.Rows.{out-parts, toldVal, told-is}
 use Rattle.lent.proofs.Shut.{symOf, headOf, opened, by-names, Of}

@@ -43,7 +43,7 @@ use Rattle.node.specs.declared.Node.{Node}
 use Rattle.events.specs.Events.{wentDown}
 use Rattle.effects.specs.Effects.{firstRecord}
 use Rattle.lent.specs.Lent.{firstRecords}
-use Rattle.lent.specs.LentLaws.{begun-none, begun-more, begun-length}
+use Rattle.lent.specs.laws.LentLaws.{begun-none, begun-more, begun-length}
 use Rattle.lent.proofs.Walk.{var, sets, lands, aims, stores, clears, bumps, locals, whiles, ends}
 use Rattle.lent.proofs.Rows.{nodeVal, node-tells}
 use Rattle.lent.proofs.Slice.{at-list, Had, opening, closing, asks-fact, calls-by}

@@ -45,9 +45,9 @@ use Rattle.site.specs.declared.Answer.{Answer}
 use Rattle.lent.specs.declared.Told.{Told}
 use Rattle.lent.specs.Lent.{firstRecords}
 use Rattle.steps.specs.Named.{named as what}
-use Rattle.lent.specs.InTurn.{indexOf, beginsOf, compromisedOf}
+use Rattle.lent.specs.laws.InTurn.{indexOf, beginsOf, compromisedOf}
 use Rattle.lent.specs.Lent.{Said}
-use Rattle.lent.specs.TurnLaws.{SaidAt, asked, all-said}
+use Rattle.lent.specs.laws.TurnLaws.{SaidAt, asked, all-said}
 use Rattle.lent.proofs.Walk.{var, fvar, sets, lands-told, ends}
 use Rattle.lent.proofs.Shut.{headOf, opened, by-names, Of}
 use Rattle.lent.proofs.Rows.{toldTy, toldVal, told-parts}

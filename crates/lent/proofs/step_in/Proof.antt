@@ -1,5 +1,5 @@
 use native.Mathlib.Omega.{arith}
-use Rattle.lent.specs.LentLaws.{all-lent}
+use Rattle.lent.specs.laws.LentLaws.{all-lent}
 use borrow.Author.Needs.{needs}
 use Rattle.lent.proofs.step_in.Statement.{statement}
 use Rattle.lent.proofs.step_in.Tie as tie

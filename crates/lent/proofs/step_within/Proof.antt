@@ -1,5 +1,5 @@
 use native.Mathlib.Omega.{arith}
-use Rattle.lent.specs.LentLaws.{all-lent, more-lent}
+use Rattle.lent.specs.laws.LentLaws.{all-lent, more-lent}
 use borrow.Author.Needs.{needs}
 use Rattle.lent.proofs.step_within.Statement.{statement}
 use Rattle.lent.proofs.step_within.Tie as tie

@@ -1,5 +1,5 @@
 use Rattle.refusals.specs.Tests.{refusal}
-use Rattle.refusing.specs.Parts.{taken, report-range, deliver-range}
+use Rattle.refusing.specs.laws.Parts.{taken, report-range, deliver-range}
 use borrow.Author.Needs.{needs}
 use Rattle.refusing.proofs.ask.Statement.{statement}
 use Rattle.refusing.proofs.ask.Tie as tie

@@ -1,5 +1,5 @@
 use mathlib.Core.Path.{_∙_}
-use Rattle.refusing.specs.Parts.{start-alone}
+use Rattle.refusing.specs.laws.Parts.{start-alone}
 use Rattle.refusing.proofs.Others.{no-start}
 use borrow.Author.Needs.{needs}
 use Rattle.refusing.proofs.refuse.Statement.{statement}

@@ -1,5 +1,5 @@
-use Rattle.refusals.specs.Tests.{appended}
-use Rattle.refusing.specs.Parts.{taken}
+use Rattle.refusals.specs.laws.Tests.{appended}
+use Rattle.refusing.specs.laws.Parts.{taken}
 use borrow.Author.Needs.{needs}
 use Rattle.refusing.proofs.refuse_turn.Statement.{statement}
 use Rattle.refusing.proofs.refuse_turn.Tie as tie

@@ -1,4 +1,4 @@
-use Rattle.refusals.specs.Tests.{appended}
+use Rattle.refusals.specs.laws.Tests.{appended}
 use borrow.Author.Needs.{needs}
 use Rattle.refusing.proofs.share.Statement.{statement}
 use Rattle.refusing.proofs.share.Tie as tie

@@ -1,8 +1,8 @@
 use mathlib.Core.Path.{ap, sym, _∙_}
 use lib.Bits.{bitXor}
 use Rattle.senders.specs.Masks.{without}
-use Rattle.senders.specs.Bits.{one-shl}
-use Rattle.senders.specs.MaskLaws.{in-above}
+use Rattle.senders.specs.laws.Bits.{one-shl}
+use Rattle.senders.specs.laws.MaskLaws.{in-above}
 use borrow.Author.Needs.{needs}
 use Rattle.senders.proofs.forget.Statement.{statement}
 use Rattle.senders.proofs.forget.Tie as tie

@@ -1,4 +1,4 @@
-use Rattle.senders.specs.MaskLaws.{ones-size}
+use Rattle.senders.specs.laws.MaskLaws.{ones-size}
 use Rattle.senders.proofs.how_many.Statement.{statement}
 use Rattle.senders.proofs.how_many.Tie as tie
 use Rattle.senders.proofs.how_many.Reads as reads

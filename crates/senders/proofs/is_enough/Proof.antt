@@ -1,7 +1,7 @@
 use Prim.Native.Nat.{_+_}
 use mathlib.Core.Path.{ap}
 use lib.Dec.{leb}
-use Rattle.senders.specs.MaskLaws.{ones-size}
+use Rattle.senders.specs.laws.MaskLaws.{ones-size}
 use borrow.Author.Needs.{needs}
 use Rattle.senders.proofs.is_enough.Statement.{statement}
 use Rattle.senders.proofs.is_enough.Tie as tie

@@ -1,6 +1,6 @@
 use mathlib.Core.Path.{refl, sym}
 use Rattle.senders.specs.Masks.{isIn}
-use Rattle.senders.specs.MaskLaws.{in-above}
+use Rattle.senders.specs.laws.MaskLaws.{in-above}
 use borrow.Author.Needs.{needs}
 use Rattle.senders.proofs.is_in.Statement.{statement}
 use Rattle.senders.proofs.is_in.Tie as tie

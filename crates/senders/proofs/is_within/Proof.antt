@@ -1,5 +1,5 @@
 use mathlib.Core.Path.{sym}
-use Rattle.senders.specs.Within.{shifted-out, room-within}
+use Rattle.senders.specs.laws.Within.{shifted-out, room-within}
 use borrow.Author.Needs.{needs}
 use Rattle.senders.proofs.is_within.Statement.{statement}
 use Rattle.senders.proofs.is_within.Tie as tie

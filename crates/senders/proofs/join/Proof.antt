@@ -2,7 +2,7 @@ use mathlib.Core.Path.{ap}
 use borrow.Author.Tests.{le-ltb, lt-ltb}
 use lib.Bits.{bitOr}
 use Rattle.senders.specs.Masks.{joined}
-use Rattle.senders.specs.Bits.{one-shl}
+use Rattle.senders.specs.laws.Bits.{one-shl}
 use borrow.Author.Needs.{needs}
 use Rattle.senders.proofs.join.Statement.{statement}
 use Rattle.senders.proofs.join.Tie as tie

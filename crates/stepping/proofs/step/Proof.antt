@@ -1,4 +1,4 @@
-use Rattle.stepping.specs.StepLaws.{when-refused, when-done}
+use Rattle.stepping.specs.laws.StepLaws.{when-refused, when-done}
 use Rattle.stepping.specs.Steps.{stepped}
 use mathlib.Core.Path.{_∙_}
 use borrow.Author.Needs.{needs}

@@ -1,7 +1,7 @@
 use mathlib.Core.Path.{sym}
 use native.Mathlib.Nat.{not-suc-le-zero}
 use lib.Dec.{lit<}
-use Rattle.text.specs.Decimal.{places-is}
+use Rattle.text.specs.laws.Decimal.{places-is}
 use Rattle.text.proofs.few_places.Statement.{statement}
 use Rattle.text.proofs.few_places.Tie as tie
 use Rattle.text.proofs.few_places.Reads as reads

@@ -2,7 +2,8 @@ use Prim.Native.Nat.{ℕ, _+_, _/_, _^_}
 use mathlib.Core.Path.{ap, sym, _∙_}
 use native.Mathlib.Nat.{div-div-eq-div-mul}
 use native.Mathlib.Omega.{arith}
-use Rattle.text.specs.Decimal.{digitCount, places-le, places-8, places-16}
+use Rattle.text.specs.Decimal.{digitCount}
+use Rattle.text.specs.laws.Decimal.{places-le, places-8, places-16}
 use borrow.Author.Needs.{needs}
 use Rattle.text.proofs.places_of.Statement.{statement}
 use Rattle.text.proofs.places_of.Tie as tie

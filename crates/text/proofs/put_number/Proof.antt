@@ -2,8 +2,9 @@ use Prim.Native.Nat.{ℕ, _+_}
 use mathlib.Core.Path.{refl, ap, sym, _∙_}
 use native.Mathlib.Omega.{arith}
 use lib.Seq.{sets}
-use Rattle.text.specs.Decimal.{spelled, decimal, places-le, length-spelled, one-digit}
-use Rattle.text.specs.LineLaws.{puts-as}
+use Rattle.text.specs.Decimal.{spelled, decimal}
+use Rattle.text.specs.laws.Decimal.{places-le, length-spelled, one-digit}
+use Rattle.text.specs.laws.LineLaws.{puts-as}
 use borrow.Author.Needs.{needs}
 use Rattle.text.proofs.put_number.Statement.{statement}
 use Rattle.text.proofs.put_number.Tie as tie

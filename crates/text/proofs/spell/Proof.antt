@@ -3,7 +3,8 @@ use mathlib.Core.Path.{_∙_}
 use native.Mathlib.Omega.{arith}
 use lib.ListN.{length-set}
 use borrow.Author.Needs.{needs}
-use Rattle.text.specs.Decimal.{Spelling, spelling-begins, spelling-two, spelling-last, spelling-ends, spelling-length}
+use Rattle.text.specs.Decimal.{Spelling}
+use Rattle.text.specs.laws.Decimal.{spelling-begins, spelling-two, spelling-last, spelling-ends, spelling-length}
 use Rattle.text.proofs.spell.Statement.{statement}
 use Rattle.text.proofs.spell.Tie as tie
 use Rattle.text.proofs.spell.Reads as reads

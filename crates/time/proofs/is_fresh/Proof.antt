@@ -1,5 +1,5 @@
 use mathlib.Core.Path.{sym}
-use Rattle.time.specs.Fresh.{fresh-sums}
+use Rattle.time.specs.laws.Fresh.{fresh-sums}
 use borrow.Author.Needs.{needs}
 use Rattle.time.proofs.is_fresh.Statement.{statement}
 use Rattle.time.proofs.is_fresh.Tie as tie

@@ -1,5 +1,6 @@
 use native.Mathlib.Omega.{arith}
-use Rattle.time.specs.Newer.{newer, ahead-is}
+use Rattle.time.specs.Newer.{newer}
+use Rattle.time.specs.laws.Newer.{ahead-is}
 use borrow.Author.Needs.{needs}
 use Rattle.time.proofs.is_newer.Statement.{statement}
 use Rattle.time.proofs.is_newer.Tie as tie

@@ -4,7 +4,7 @@ use native.Mathlib.Omega.{arith}
 use borrow.Author.Needs.{needs}
 use lib.ListN.{drop}
 use Rattle.store.specs.Earliest.{freshStamp, freshStamps, qualifies, firstOf, earliest}
-use Rattle.store.specs.EarliestLaws.{found-here, found-later, found-never, qualifies-fits}
+use Rattle.store.specs.laws.EarliestLaws.{found-here, found-later, found-never, qualifies-fits}
 use Rattle.store.proofs.Store.earliest.Statement.{statement}
 use Rattle.store.proofs.Store.earliest.Tie as tie
 use Rattle.store.proofs.Store.earliest.Reads as reads

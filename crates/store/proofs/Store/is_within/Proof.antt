@@ -3,7 +3,7 @@ use lib.ListN.{getD}
 use Rattle.senders.specs.Masks.{together}
 use Rattle.tables.specs.Tables.{table}
 use Rattle.store.specs.Store.{storeWithin}
-use Rattle.store.specs.Places.{all-together}
+use Rattle.store.specs.laws.Places.{all-together}
 use borrow.Author.Needs.{needs}
 use Rattle.store.proofs.Store.is_within.Statement.{statement}
 use Rattle.store.proofs.Store.is_within.Tie as tie

@@ -5,7 +5,7 @@ use native.Mathlib.Omega.{arith}
 use borrow.Author.Needs.{needs}
 use borrow.Author.Tests.{le-leb}
 use Rattle.store.specs.Store.{movedTo}
-use Rattle.store.specs.Clearing.{Cleared, none-yet, passed, all-cleared, jump-clears}
+use Rattle.store.specs.laws.Clearing.{Cleared, none-yet, passed, all-cleared, jump-clears}
 use Rattle.store.proofs.Store.move_to.Statement.{statement}
 use Rattle.store.proofs.Store.move_to.Tie as tie
 use Rattle.store.proofs.Store.move_to.Reads as reads

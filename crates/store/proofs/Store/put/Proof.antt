@@ -1,7 +1,7 @@
 use mathlib.Core.Path.{sym, _∙_}
 use native.Mathlib.Omega.{arith}
 use Rattle.store.specs.Store.{put}
-use Rattle.store.specs.Places.{found-lt, not-found, put-is}
+use Rattle.store.specs.laws.Places.{found-lt, not-found, put-is}
 use borrow.Author.Needs.{needs}
 use Rattle.store.proofs.Store.put.Statement.{statement}
 use Rattle.store.proofs.Store.put.Tie as tie

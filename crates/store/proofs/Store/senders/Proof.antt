@@ -1,7 +1,7 @@
 use mathlib.Core.Path.{sym, _∙_}
 use native.Mathlib.Omega.{arith}
 use Rattle.store.specs.Store.{sendersOf}
-use Rattle.store.specs.Places.{found, found-lt, not-found}
+use Rattle.store.specs.laws.Places.{found, found-lt, not-found}
 use borrow.Author.Needs.{needs}
 use Rattle.store.proofs.Store.senders.Statement.{statement}
 use Rattle.store.proofs.Store.senders.Tie as tie

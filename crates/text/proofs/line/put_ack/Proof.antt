@@ -1,4 +1,4 @@
-use Rattle.text.specs.LineLaws.{puts-as, puts-nothing, ack-yes, ack-no}
+use Rattle.text.specs.laws.LineLaws.{puts-as, puts-nothing, ack-yes, ack-no}
 use borrow.Author.Needs.{needs}
 use Rattle.text.proofs.line.put_ack.Statement.{statement}
 use Rattle.text.proofs.line.put_ack.Tie as tie

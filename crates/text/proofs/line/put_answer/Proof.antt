@@ -1,5 +1,5 @@
 use borrow.Author.Needs.{needs}
-use Rattle.text.specs.LineLaws.{answer-done, answer-refused}
+use Rattle.text.specs.laws.LineLaws.{answer-done, answer-refused}
 use Rattle.text.proofs.line.put_answer.Statement.{statement}
 use Rattle.text.proofs.line.put_answer.Tie as tie
 use Rattle.text.proofs.line.put_answer.Reads as reads

@@ -1,4 +1,4 @@
-use Rattle.text.specs.LineLaws.{length-lettered, puts-as, puts-nothing, pairs-zero, pairs-one, pairs-two}
+use Rattle.text.specs.laws.LineLaws.{length-lettered, puts-as, puts-nothing, pairs-zero, pairs-one, pairs-two}
 use native.Mathlib.Omega.{arith}
 use Rattle.site.specs.Answers.{Command}
 use Rattle.text.specs.Puts.{then}

@@ -4,7 +4,7 @@ use lib.ListN.{length}
 use borrow.Author.Needs.{needs}
 use borrow.Author.Tests.{lt-leb}
 use Rattle.text.specs.Lines.{lineBytes, lineNext}
-use Rattle.text.specs.LineLaws.{length-head, line-put}
+use Rattle.text.specs.laws.LineLaws.{length-head, line-put}
 use Rattle.text.proofs.line.put_line.Statement.{statement}
 use Rattle.text.proofs.line.put_line.Tie as tie
 use Rattle.text.proofs.line.put_line.Reads as reads

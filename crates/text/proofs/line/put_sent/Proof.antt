@@ -3,7 +3,7 @@ use mathlib.Core.List.{map}
 use Rattle.pairs.specs.Pair.{listed, listedKnown}
 use Rattle.site.specs.Answers.{Share, Command, Ack}
 use Rattle.text.specs.Puts.{then}
-use Rattle.text.specs.LineLaws.{puts-as, three-lists, length-shares, length-commands}
+use Rattle.text.specs.laws.LineLaws.{puts-as, three-lists, length-shares, length-commands}
 use borrow.Author.Needs.{needs}
 use Rattle.text.proofs.line.put_sent.Statement.{statement}
 use Rattle.text.proofs.line.put_sent.Tie as tie

@@ -1,6 +1,6 @@
 use native.Mathlib.Omega.{arith}
 use Rattle.text.specs.Puts.{then}
-use Rattle.text.specs.Decimal.{length-decimal}
+use Rattle.text.specs.laws.Decimal.{length-decimal}
 use borrow.Author.Needs.{needs}
 use Rattle.text.proofs.line.put_share.Statement.{statement}
 use Rattle.text.proofs.line.put_share.Tie as tie

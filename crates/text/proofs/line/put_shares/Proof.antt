@@ -1,7 +1,7 @@
 use native.Mathlib.Omega.{arith}
 use Rattle.site.specs.Answers.{Share}
 use Rattle.text.specs.Puts.{then}
-use Rattle.text.specs.LineLaws.{puts-as, puts-nothing, pairs-zero, pairs-one, pairs-two, length-share}
+use Rattle.text.specs.laws.LineLaws.{puts-as, puts-nothing, pairs-zero, pairs-one, pairs-two, length-share}
 use borrow.Author.Needs.{needs}
 use Rattle.text.proofs.line.put_shares.Statement.{statement}
 use Rattle.text.proofs.line.put_shares.Tie as tie

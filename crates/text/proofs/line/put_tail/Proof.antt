@@ -1,7 +1,7 @@
 use native.Mathlib.Omega.{arith}
 use borrow.Author.Needs.{needs}
 use Rattle.text.specs.Lines.{sentMessages}
-use Rattle.text.specs.LineLaws.{tail-none, tail-some, length-sent}
+use Rattle.text.specs.laws.LineLaws.{tail-none, tail-some, length-sent}
 use Rattle.text.proofs.line.put_tail.Statement.{statement}
 use Rattle.text.proofs.line.put_tail.Tie as tie
 use Rattle.text.proofs.line.put_tail.Reads as reads

@@ -1,0 +1,118 @@
+-- What the tests of an accepted step say: each row of the table by its number, and the rows that steps of one shape have in common.
+use Prim.Native.Nat.{ℕ, _+_, _≤_, _<_}
+use mathlib.Core.Path.{_≡_, refl}
+use mathlib.Core.Bool.{Bool, true, false, not, _&&_, _||_}
+use native.Mathlib.Omega.{arith}
+use lib.Dec.{eqb, leb}
+use borrow.Author.Tests.{ltb-true, leb-true, eqb-true, not-true}
+use Rattle.refusals.specs.Tests.{refusal, numbered, testAt}
+use Rattle.refusals.specs.laws.Tests.{each-passed}
+use Rattle.refusals.specs.laws.Bools.{left, right}
+use Rattle.time.specs.declared.Dts.{Dts}
+use Rattle.senders.specs.Masks.{room, isIn, size, within}
+use Rattle.steps.specs.declared.Beginning.{Beginning}
+use Rattle.steps.specs.declared.Event.{Event}
+use Rattle.steps.specs.declared.Turn.{Turn}
+use Rattle.steps.specs.declared.Step.{Step}
+use Rattle.steps.specs.declared.Step.the-variants.{Start, AtNode, Life}
+use Rattle.steps.specs.Named.{named, saidBy, saidByTurn}
+use Rattle.node.specs.declared.Node.{Node}
+use Rattle.node.specs.Asked.{phaseDown}
+use Rattle.site.specs.declared.Site.{Site}
+use Rattle.site.specs.Site.{nodes, n, g, mostF, mostK, firstG, lastStartG, lastG, siteSound, actorSound}
+use Rattle.site.specs.laws.Sound.{SoundSite, sound}
+use Rattle.refusing.specs.laws.Parts.{not-down}
+use Rattle.refusing.specs.Tests.{isNow, isStatus, isNode, nodeClock, areInRange, tableFor, testsOf}
+
+module _ (site : Site) (lent : ℕ) (node : Node) (step : Step) where
+  abbrev pub Passes : Type 0
+  Passes = refusal (testsOf site lent node step) ≡ 0
+
+  -- no row has the number 0
+  pub tests-numbered : numbered (testsOf site lent node step) ≡ true
+  unfolding testsOf
+  tests-numbered = refl
+
+  -- row k is passed
+  pub row-passed : (k : ℕ) → Passes → testAt k (tableFor site lent node (named step)) ≡ true
+  unfolding testsOf
+  row-passed k e = each-passed k (tableFor site lent node (named step)) refl e
+
+-- the last clock that a step can name
+abbrev pub latestClock : ℕ
+latestClock = lastG + 1
+
+-- a Start: row 1
+pub record Begins (lent : ℕ) (b : Beginning) : Type 0 where
+  pub most-f : b .f ≤ mostF
+  pub most-k : b .k ≤ mostK
+  pub few : size (b .compromised) ≤ b .f
+  pub lends : nodes (b .f) (b .k) ≤ lent
+
+pub begins : (site : Site) (lent : ℕ) (node : Node) (b : Beginning) → Passes site lent node (Start b) → Begins lent b
+begins site lent node b e =
+    let six = leb (b .f) mostF && leb (b .k) mostK && isStatus (b .status) && (leb firstG (b .g .0) && leb (b .g .0) lastStartG) && within (b .compromised) (nodes (b .f) (b .k)) in
+    let all = row-passed site lent node (Start b) 1 e in
+    let not-long = left (six && leb (size (b .compromised)) (b .f)) (leb (nodes (b .f) (b .k)) lent) all in
+    let sets = left six (leb (size (b .compromised)) (b .f)) not-long in
+    let clock = left _ (within (b .compromised) (nodes (b .f) (b .k))) sets in
+    let status = left (leb (b .f) mostF && leb (b .k) mostK && isStatus (b .status)) (leb firstG (b .g .0) && leb (b .g .0) lastStartG) clock in
+    let numbers = left (leb (b .f) mostF && leb (b .k) mostK) (isStatus (b .status)) status in
+    record {
+      most-f = leb-true _ _ (left (leb (b .f) mostF) (leb (b .k) mostK) numbers);
+      most-k = leb-true _ _ (right (leb (b .f) mostF) (leb (b .k) mostK) numbers);
+      few = leb-true _ _ (right six (leb (size (b .compromised)) (b .f)) not-long);
+      lends = leb-true _ _ (right (six && leb (size (b .compromised)) (b .f)) (leb (nodes (b .f) (b .k)) lent) all);
+    }
+
+-- a step at node i: rows 16, 2 and 3
+pub record Placed (site : Site) (lent i : ℕ) : Type 0 where
+  pub whole : SoundSite site lent
+  pub is-node : i < n site
+  pub is-lent : i < lent
+  pub has-room : i < room
+  pub room-for-node : (k : ℕ) → isNode site k ≡ true → k < room
+  pub is-correct : isIn (site .compromised) i ≡ false
+
+placed : (site : Site) (lent : ℕ) (node : Node) (i : ℕ) (fields : Bool) → (siteSound site lent && actorSound site node i) ≡ true → (isNode site i && fields) ≡ true
+    → not (isIn (site .compromised) i) ≡ true → Placed site lent i
+placed site lent node i fields a b c =
+    let whole = sound site lent (left _ _ a) in
+    let below : i < n site = ltb-true _ _ (left _ _ b) in
+    let lends = whole .lends in
+    let most-f = whole .most-f in
+    let most-k = whole .most-k in
+    let room-for : ((k : ℕ) → k < n site → k < room) = λ k z. omega arith in
+    record { whole = whole; is-node = below; is-lent = omega arith; has-room = omega arith; room-for-node = λ k e. room-for k (ltb-true _ _ e); is-correct = not-true _ c }
+
+timely : (site : Site) (t : Dts) → g site .0 ≤ lastG → isNow site t ≡ true → t .0 ≤ latestClock
+timely site t last b = go (eqb (t .0) (g site .0)) refl b
+  where
+    go : (x : Bool) → eqb (t .0) (g site .0) ≡ x → (x || eqb (t .0) (g site .0 + 1)) ≡ true → t .0 ≤ latestClock
+    go true e h = let q : t .0 ≡ g site .0 = eqb-true _ _ e in omega arith
+    go false e h = let q : t .0 ≡ g site .0 + 1 = eqb-true _ _ h in omega arith
+
+-- an event at a node: rows 16 and 2 to 6
+pub record Happens (site : Site) (lent : ℕ) (node : Node) (i : ℕ) (t : Dts) (event : Event) : Type 0 where
+  pub place : Placed site lent i
+  pub in-range : areInRange site (saidBy event) ≡ true
+  pub is-up : not (phaseDown (node .phase)) ≡ true
+  pub not-late : t .0 ≤ latestClock
+  pub not-back : nodeClock node .0 ≤ t .0
+
+pub happens : (site : Site) (lent : ℕ) (node : Node) (i : ℕ) (t : Dts) (event : Event) → Passes site lent node (AtNode i t event) → Happens site lent node i t event
+happens site lent node i t event e =
+    let place = placed site lent node i (areInRange site (saidBy event)) (row-passed site lent node (AtNode i t event) 16 e) (row-passed site lent node (AtNode i t event) 2 e) (row-passed site lent node (AtNode i t event) 3 e) in
+    record {
+      place = place;
+      in-range = right (isNode site i) _ (row-passed site lent node (AtNode i t event) 2 e);
+      is-up = not-down (node .phase) event (row-passed site lent node (AtNode i t event) 4 e);
+      not-late = timely site t (place .whole .last-g) (row-passed site lent node (AtNode i t event) 5 e);
+      not-back = leb-true _ _ (row-passed site lent node (AtNode i t event) 6 e);
+    }
+
+-- a turn in a node's life
+pub turns : (site : Site) (lent : ℕ) (node : Node) (i : ℕ) (turn : Turn) → Passes site lent node (Life i turn) → Placed site lent i
+turns site lent node i turn e =
+    placed site lent node i (areInRange site (saidByTurn turn)) (row-passed site lent node (Life i turn) 16 e) (row-passed site lent node (Life i turn) 2 e)
+    (row-passed site lent node (Life i turn) 3 e)

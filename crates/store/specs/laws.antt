@@ -1,0 +1,13 @@
+-- What is shown of the definitions. Nothing here has to be believed.
+pub mod Places
+pub mod Clearing
+pub mod Held
+pub mod HeldLaws
+pub mod EarliestLaws
+pub mod Own
+pub mod WithinLaws
+pub mod Keeping
+pub mod Alike
+pub mod Before
+pub mod Turning
+pub mod AsBefore

@@ -1,0 +1,6 @@
+-- What is shown of the definitions. Nothing here has to be believed.
+pub mod ByDefault
+pub mod Fresh
+pub mod Larger
+pub mod Neighbours
+pub mod Newer
