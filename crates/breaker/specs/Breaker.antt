@@ -6,7 +6,7 @@ use lib.Dec.{eqb, leb, ltb}
 use lib.ListN.{getD}
 use Rattle.time.specs.declared.Dts.{Dts}
 use Rattle.time.specs.Larger.{larger}
-use Rattle.time.specs.Limits.{stampSound}
+use Rattle.time.specs.Limits.{stampSound, clockSound}
 use Rattle.tables.specs.Tables.{table}
 use Rattle.pairs.specs.declared.Pair.{Pair}
 use Rattle.pairs.specs.declared.Known.{Known}
@@ -74,4 +74,4 @@ unfoldable pub changesSound : Changes → Bool
 changesSound changes = leb (changes .count) mostChanges && allSound (table mostChanges (pairAt changes))
 
 unfoldable pub breakerSound : Breaker → Bool
-breakerSound breaker = pairSound (breaker .pair) && stampSound (breaker .clock) && changesSound (breaker .changes)
+breakerSound breaker = pairSound (breaker .pair) && clockSound (breaker .clock) && changesSound (breaker .changes)

@@ -2,7 +2,8 @@
 use pairs::Known;
 use pairs::Pair;
 use time::Dts;
-use time::LAST_HELD;
+use time::LAST_HELD_CLOCK;
+use time::LAST_HELD_STAMP;
 ghost use mathlib.Core.Path.{_≡_};
 ghost use Rattle.breaker.specs.Breaker.{remembered, started, answered, changed, afterCommand, changeAt, pairSound, changesSound, breakerSound};
 
@@ -109,7 +110,7 @@ pub fn change_at(breaker: Breaker, back: u8) -> Known
 fn is_pair_sound(pair: Pair) -> bool
     ensures { λ out. ⌜ out ≡ pairSound pair ⌝ }
 {
-    (pair.status <= 1) & (pair.stamp.0 <= LAST_HELD)
+    (pair.status <= 1) & (pair.stamp.0 <= LAST_HELD_STAMP)
 }
 
 fn are_changes_sound(changes: Changes) -> bool
@@ -134,5 +135,5 @@ pub fn is_sound(breaker: Breaker) -> bool
     let pair = is_pair_sound(breaker.pair);
     let old = breaker.changes;
     let changes = are_changes_sound(old);
-    pair & (breaker.clock.0 <= LAST_HELD) & changes
+    pair & (breaker.clock.0 <= LAST_HELD_CLOCK) & changes
 }

@@ -2,7 +2,7 @@
 use Prim.Native.Nat.{ℕ}
 use mathlib.Core.Bool.{Bool, true, false, _&&_}
 use Rattle.time.specs.Newer.{newer}
-use Rattle.time.specs.Limits.{stampSound}
+use Rattle.time.specs.Limits.{stampSound, clockSound}
 use Rattle.store.specs.Store.{storeWithin}
 use Rattle.pairs.specs.declared.Known.{Known}
 use Rattle.pairs.specs.declared.Known.the-variants.{Yes, No}
@@ -111,4 +111,4 @@ phaseSound (Starting l) = learnedSound l
 phaseSound (Running rec) = recordSound rec
 
 unfoldable pub nodeSound : Node → ℕ → Bool
-nodeSound node n = stampSound (node .store .clock) && storeWithin (node .store) n && phaseSound (node .phase)
+nodeSound node n = clockSound (node .store .clock) && storeWithin (node .store) n && phaseSound (node .phase)

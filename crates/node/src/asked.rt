@@ -6,7 +6,8 @@ use crate::Record;
 use crate::Resend;
 use pairs::Known;
 use pairs::Pair;
-use time::LAST_HELD;
+use time::LAST_HELD_CLOCK;
+use time::LAST_HELD_STAMP;
 ghost use mathlib.Core.Path.{_≡_};
 ghost use Rattle.node.specs.State.{attempts};
 ghost use Rattle.pairs.specs.Pair.{same};
@@ -140,7 +141,7 @@ fn is_known_sound(known: Known) -> bool
     ensures { λ out. ⌜ out ≡ knownSound known ⌝ }
 {
     match known {
-        Known::Yes(pair) => pair.stamp.0 <= LAST_HELD,
+        Known::Yes(pair) => pair.stamp.0 <= LAST_HELD_STAMP,
         Known::No => true,
     }
 }
@@ -149,7 +150,7 @@ fn is_resend_sound(resend: Resend) -> bool
     ensures { λ out. ⌜ out ≡ resendSound resend ⌝ }
 {
     match resend {
-        Resend::Armed(stamp) => stamp.0 <= LAST_HELD,
+        Resend::Armed(stamp) => stamp.0 <= LAST_HELD_STAMP,
         Resend::Off => true,
     }
 }
@@ -159,7 +160,7 @@ fn is_record_sound(rec: Record) -> bool
 {
     let resend = rec.resend;
     let resend_sound = is_resend_sound(resend);
-    (rec.r.stamp.0 <= LAST_HELD) & (rec.b.stamp.0 <= LAST_HELD) & resend_sound
+    (rec.r.stamp.0 <= LAST_HELD_STAMP) & (rec.b.stamp.0 <= LAST_HELD_STAMP) & resend_sound
 }
 
 pub fn is_sound(node: Node, n: u32) -> bool
@@ -168,7 +169,7 @@ pub fn is_sound(node: Node, n: u32) -> bool
     let phase = node.phase;
     let store = node.store;
     let places = store.is_within(n);
-    let held = (store.clock.0 <= LAST_HELD) & places;
+    let held = (store.clock.0 <= LAST_HELD_CLOCK) & places;
     match phase {
         Phase::Down => held,
         Phase::Starting(learned) => {

@@ -1,3 +1,4 @@
 -- Statuses with their stamps.
 pub mod Pair
+pub mod Shares
 pub mod laws

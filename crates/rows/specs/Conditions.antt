@@ -36,16 +36,19 @@ use Rattle.rows.specs.Outsiders.{Outsider}
 
 -- ---- 16, of what stands in a site and in a record
 
--- a stamp or clock above 1,000,000,003
-abbrev pub TooLate : Dts → Type 0
-TooLate T = 1_000_000_003 < T .0
+-- a stamp above 1,000,000,003, and a clock above it
+abbrev pub StampTooLate : Dts → Type 0
+StampTooLate T = 1_000_000_003 < T .0
+
+abbrev pub ClockTooLate : Dts → Type 0
+ClockTooLate t = 1_000_000_003 < t .0
 
 abbrev pub KnownTooLate : Known → Type 0
-KnownTooLate (Yes p) = TooLate (p .stamp)
+KnownTooLate (Yes p) = StampTooLate (p .stamp)
 KnownTooLate No = ⊥
 
 abbrev pub ResendTooLate : Resend → Type 0
-ResendTooLate (Armed T) = TooLate T
+ResendTooLate (Armed T) = StampTooLate T
 ResendTooLate Off = ⊥
 
 -- a sender not below n, at one of the store's places
@@ -54,7 +57,7 @@ SenderOutside store n = (k : ℕ) × (k < places) × Outsider (setAt store k) n
 
 -- more than eight changes, or one of the eight places has a status above 1 or a stamp too late
 abbrev pub PairOutOfRange : Pair → Type 0
-PairOutOfRange p = (1 < p .status) ⊎ TooLate (p .stamp)
+PairOutOfRange p = (1 < p .status) ⊎ StampTooLate (p .stamp)
 
 abbrev pub ChangesOutOfRange : Changes → Type 0
 ChangesOutOfRange changes = (8 < changes .count) ⊎ ((k : ℕ) × (k < 8) × PairOutOfRange (pairAt changes k))
@@ -63,7 +66,7 @@ ChangesOutOfRange changes = (8 < changes .count) ⊎ ((k : ℕ) × (k < 8) × Pa
 abbrev pub PhaseTooLate : Phase → Type 0
 PhaseTooLate NotUp = ⊥
 PhaseTooLate (Starting l) = KnownTooLate (l .r) ⊎ KnownTooLate (l .b)
-PhaseTooLate (Running rec) = TooLate (rec .r .stamp) ⊎ TooLate (rec .b .stamp) ⊎ ResendTooLate (rec .resend)
+PhaseTooLate (Running rec) = StampTooLate (rec .r .stamp) ⊎ StampTooLate (rec .b .stamp) ⊎ ResendTooLate (rec .resend)
 
 -- "any step but Start"
 abbrev pub NoStart : Option Beginning → Type 0
@@ -194,7 +197,7 @@ module _ (site : Site) (lent : ℕ) (node : Node) (step : Step) where
       ⊎ Outsider (site .down) (n site)
       ⊎ SenderOutside (site .made) (n site)
       ⊎ PairOutOfRange (site .breaker .pair)
-      ⊎ TooLate (site .breaker .clock)
+      ⊎ ClockTooLate (site .breaker .clock)
       ⊎ ChangesOutOfRange (site .breaker .changes)
 
   -- "the record of the acting node (for Deliver, the receiver), if that node is below n, holds a stamp or clock above 1,000,000,003 or a sender not
@@ -202,7 +205,7 @@ module _ (site : Site) (lent : ℕ) (node : Node) (step : Step) where
   abbrev pub RecordOutOfRange : Type 0
   RecordOutOfRange =
       Of (named step .actor) λ i.
-      (i < n site) × (TooLate (nodeClock node) ⊎ SenderOutside (node .store) (n site) ⊎ PhaseTooLate (node .phase))
+      (i < n site) × (ClockTooLate (nodeClock node) ⊎ SenderOutside (node .store) (n site) ⊎ PhaseTooLate (node .phase))
 
   -- "any step but Start"
   abbrev pub SiteOrRecordOutOfRange : Type 0

@@ -10,7 +10,8 @@ use Rattle.time.specs.Fresh.{fresh}
 use Rattle.senders.specs.Masks.{isIn}
 use Rattle.pairs.specs.declared.Pair.{Pair}
 use Rattle.pairs.specs.declared.Known.{Known}
-use Rattle.pairs.specs.Pair.{pair, listed}
+use Rattle.pairs.specs.Pair.{listed}
+use Rattle.pairs.specs.Shares.{deliveredFrom}
 use Rattle.steps.specs.declared.Beginning.{Beginning}
 use Rattle.steps.specs.declared.Step.{Step}
 use Rattle.steps.specs.declared.Step.the-variants.{Start, Tick, AtNode, Life, AtBreaker}
@@ -162,16 +163,6 @@ oneOf kinds (a ∷ rest) = among (stepKind a) kinds || oneOf kinds rest
 -- "When r and b are both known it runs": in this life its relay has reported, and the breaker has acknowledged or answered a query
 abbrev pub runs : List Accepted → Bool
 runs rest = oneOf (report ∷ []) (life rest) && oneOf (ack ∷ query ∷ []) (life rest)
-
--- a share of each stamp
-abbrev sharesAt : ℕ → List Dts → List Pair
-sharesAt A [] = []
-sharesAt A (T ∷ more) = pair A T ∷ sharesAt A more
-
-abbrev pub deliveredFrom : ℕ → Option ℕ → Option ℕ → List Dts → List Pair
-deliveredFrom i (some sender) (some A) stamps = cond (eqb i sender) (sharesAt A stamps) []
-deliveredFrom i (some sender) none stamps = []
-deliveredFrom i none A stamps = []
 
 -- the shares of sender i that a step at node j brings it: those that it delivers and, where the sender is j itself, those that it makes.
 -- "Own shares count at once as delivered." (A share that is not fresh is not delivered: refusal 7.)

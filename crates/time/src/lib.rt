@@ -23,8 +23,10 @@ pub const WINDOW: u64 = 2;
 // The largest stamp that discretising gives.
 pub const LAST_STAMP: u64 = 1000000000;
 
-// The largest stamp or clock that a site or a node can come to hold.
-pub const LAST_HELD: u32 = 1000000003;
+// The largest stamp, and the largest clock, that a site or a node can come to hold.
+pub const LAST_HELD_STAMP: u32 = 1000000003;
+
+pub const LAST_HELD_CLOCK: u32 = 1000000003;
 
 pub struct Discretised {
     pub refusal: u8,

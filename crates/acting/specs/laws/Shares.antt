@@ -9,7 +9,7 @@ use lib.Dec.{eqb}
 use borrow.Author.Tests.{eqb-true, le-leb}
 use Rattle.time.specs.declared.Dts.{Dts}
 use Rattle.time.specs.Fresh.{fresh, window, next}
-use Rattle.time.specs.laws.Fresh.{next-is}
+use Rattle.time.specs.laws.Fresh.{latestClock, next-is}
 use Rattle.pairs.specs.declared.Pair.{Pair}
 use Rattle.pairs.specs.declared.Known.the-variants.{Yes}
 use Rattle.pairs.specs.declared.Pairs.{Pairs}
@@ -28,10 +28,6 @@ use Rattle.steps.specs.declared.Event.{Event}
 use Rattle.acting.specs.Acting.{changedBy, acted}
 use Rattle.acting.specs.laws.ByEvent.{SharesLeft, no-shares, r-shared, runs-up, left-by}
 use Rattle.acting.specs.laws.Relay.{statusIn, relayAfter, told-r}
-
--- the last clock that a step can name
-abbrev pub latestClock : ℕ
-latestClock = 1_000_000_001
 
 -- at its own clock, or one ahead
 abbrev pub AtOwnClock : Dts → Dts → Type 0

@@ -8,7 +8,7 @@ use mathlib.Core.Option.{Option, none, some}
 use lib.Dec.{eqb}
 use Rattle.time.specs.declared.Dts.{Dts}
 use Rattle.time.specs.Fresh.{fresh}
-use Rattle.time.specs.laws.Fresh.{fresh-same}
+use Rattle.time.specs.laws.Fresh.{latestClock, fresh-same}
 use Rattle.senders.specs.Masks.{room}
 use Rattle.store.specs.declared.Store.{Store}
 use Rattle.store.specs.Store.{empty, movedTo}
@@ -17,7 +17,8 @@ use Rattle.store.specs.laws.Held.{clock-put}
 use Rattle.store.specs.laws.HeldLaws.{takes-near, held-taken, clock-at}
 use Rattle.pairs.specs.declared.Pair.{Pair}
 use Rattle.pairs.specs.declared.Pairs.{Pairs}
-use Rattle.pairs.specs.Pair.{pair, listed, has}
+use Rattle.pairs.specs.Pair.{listed, has}
+use Rattle.pairs.specs.Shares.{sharesAt, deliveredFrom}
 use Rattle.node.specs.declared.Learned.{Learned}
 use Rattle.node.specs.declared.Record.{Record}
 use Rattle.node.specs.declared.Phase.the-variants.{Starting, Running}
@@ -29,23 +30,13 @@ use Rattle.combining.specs.laws.OwnLaws.{has-append, has-cond, Near, near-fresh
 use Rattle.breaker.specs.declared.Breaker.{Breaker}
 use Rattle.steps.specs.declared.Event.{Event}
 use Rattle.steps.specs.Named.{saidBy}
+use Rattle.steps.specs.laws.Naming.{IfNamed, EachOf}
 use Rattle.acting.specs.Acting.{changedBy, stored, acted}
 use Rattle.acting.specs.laws.ByEvent.{putEach, putFrom, left-by}
 use Rattle.acting.specs.laws.Relay.{statusIn, relayAfter}
-use Rattle.acting.specs.laws.Shares.{latestClock, IsAction, shares-near, starting-shares}
+use Rattle.acting.specs.laws.Shares.{IsAction, shares-near, starting-shares}
 
 -- ---- what an event brings
-
--- a share of each stamp
-abbrev sharesAt : ℕ → List Dts → List Pair
-sharesAt A [] = []
-sharesAt A (T ∷ more) = pair A T ∷ sharesAt A more
-
--- the shares of sender k, for the sender, the status and the stamps that an event names
-abbrev pub deliveredFrom : ℕ → Option ℕ → Option ℕ → List Dts → List Pair
-deliveredFrom k (some sender) (some A) stamps = cond (eqb k sender) (sharesAt A stamps) []
-deliveredFrom k (some sender) none stamps = []
-deliveredFrom k none A stamps = []
 
 -- the shares of sender k that an event delivers
 abbrev pub deliveredBy : Event → ℕ → List Pair
@@ -54,16 +45,6 @@ deliveredBy event k = deliveredFrom k (saidBy event .sender) (saidBy event .stat
 -- the shares of sender k that an event at node i brings it: those that it delivers and, where the sender is i itself, those that it makes
 abbrev pub broughtBy : Event → ℕ → ℕ → Pairs → List Pair
 broughtBy event k i shares = deliveredBy event k ++ cond (eqb k i) (listed shares) []
-
--- if it names one, P holds of that
-abbrev pub IfNamed : {A : Type 0} → Option A → (A → Type 0) → Type 0
-IfNamed none P = Unit {0}
-IfNamed (some a) P = P a
-
--- each of those that it names is as P says
-abbrev pub EachOf : {A : Type 0} → List A → (A → Type 0) → Type 0
-EachOf [] P = Unit {0}
-EachOf (a ∷ others) P = P a × EachOf others P
 
 -- what an event names is of a sender and an action that there are, and each stamp is fresh
 abbrev pub Delivers : Dts → Event → Type 0

@@ -2,7 +2,7 @@
 -- Assumes nothing.
 use mathlib.Core.Path.{_≡_, refl, _∙_, ap}
 use mathlib.Core.Option.{Option, none, some}
-use Prim.Native.Nat.{ℕ, _<_, _≤_, _*_, _^_}
+use Prim.Native.Nat.{ℕ, _<_, _≤_, _^_}
 use native.Mathlib.Nat.{lt-irrefl}
 use native.Mathlib.Omega.{arith}
 use mathlib.Core.List.{List, [], _∷_}
@@ -45,7 +45,7 @@ use Rattle.effects.specs.Effects.{firstRecord}
 use Rattle.lent.specs.Lent.{firstRecords}
 use Rattle.lent.specs.laws.LentLaws.{begun-none, begun-more, begun-length}
 use Rattle.lent.proofs.Walk.{var, sets, lands, aims, stores, clears, bumps, locals, whiles, ends}
-use Rattle.lent.proofs.Rows.{nodeVal, node-tells}
+use Rattle.lent.proofs.Rows.{recordSize, fits-place, nodeVal, node-tells}
 use Rattle.lent.proofs.Slice.{at-list, Had, opening, closing, asks-fact, calls-by}
 use Rattle.node.proofs.Node as T
 use Rattle.node.proofs.Node.Laws as T′
@@ -60,9 +60,6 @@ use Rattle.lent.proofs.fill.Code as code
 
 abbrev stayed : Stays (f.ended .signature .params) (f.ended .kept)
 stayed = (stay-slice (0 ∷ []) tt (plain (λ _. T.the-row)), (stay-none (λ _. usize) yes, (stay-none (λ _. u16) yes, tt)))
-
-fits-place : {i n m : ℕ} → i < n → n ≤ m → m * 60 < 2 ^ 63 → i * 60 < 2 ^ 64
-fits-place l h r = omega (arith, l, h, r)
 
 module _ {M : Type 1} (𝓤 : URA M) (H : Heap 𝓤) (A : Atoms 𝓤) (mem : Memory → SProp 𝓤) (run : Routine → Fun 𝓤) where
   -- the contract that the proof cites, and of what it ensures the clause alone
@@ -115,7 +112,7 @@ module _ {M : Type 1} (𝓤 : URA M) (H : Heap 𝓤) (A : Atoms 𝓤) (W : Given
         let within : i < length ys = omega (arith, l, enough) in
         let inside : i < length (firstRecords i mask ys) = omega (arith, within, begun-length mask ys i (omega (arith, within))) in
         -- [what the new record owns; the elements; the open borrow; obs; auth; the locals]
-        lands ! 5 refl typed $ sets ! 5 (bin ! (var ! 5 refl) (lit ! tt) (record { fits = fits-place l enough (room .1) })) refl (tt, record { fits = fits-place l enough (room .1) }) $ aims ! 5 60 i refl refl refl refl refl tt $
+        lands ! 5 refl typed $ sets ! 5 (bin ! (var ! 5 refl) (lit ! tt) (record { fits = fits-place l enough (room .1) })) refl (tt, record { fits = fits-place l enough (room .1) }) $ aims ! 5 recordSize i refl refl refl refl refl tt $
         move ! (1 ∷ []) $ elem-out ! T.the-row (Is T.the-row) (shows 𝓤 H A T.the-row) (λ m. nodeVal m ∷ []) node-tells fullShare (firstRecords i mask ys) i wentDown b o inside (λ _.
         -- [nodes[i]; what it owns; the others; what the new record owns; the open borrow; obs; auth; the locals]
         stores ! 7 (of-opd ! (var ! 7 refl)) refl (store-raw ! 0 refl typed) $ clears ! 7 5 refl $ clears ! 7 6 refl $ clears ! 7 7 refl $ clears ! 7 8 refl $

@@ -1,7 +1,7 @@
 -- `lent::record_at` meets its contract: a walk of its MIR, by hand. Of `node::events::down` it knows only that it meets its contract.
 -- Assumes nothing.
 use mathlib.Core.Path.{_≡_, refl, sym, _∙_}
-use Prim.Native.Nat.{ℕ, _<_, _*_, _^_}
+use Prim.Native.Nat.{ℕ, _<_, _^_}
 use native.Mathlib.Omega.{arith}
 use mathlib.Core.List.{List, [], _∷_}
 use lib.Dec.{leb→le, nleb→lt}
@@ -40,7 +40,7 @@ use denote.Exit.{yes}
 use Rattle.node.specs.declared.Node.{Node}
 use Rattle.events.specs.Events.{wentDown}
 use Rattle.lent.proofs.Walk.{var, fvar, behind, sets, resets, lands, aims, guards, ends, ends-within}
-use Rattle.lent.proofs.Rows.{nodeVal, node-tells}
+use Rattle.lent.proofs.Rows.{recordSize, fits-here, nodeVal, node-tells}
 use Rattle.lent.proofs.Slice.{at-list, Had, opening, closing, asks, calls-by}
 use Rattle.node.proofs.Node as T
 use Rattle.node.proofs.Node.Laws as T′
@@ -55,9 +55,6 @@ use Rattle.lent.proofs.record_at.Code as code
 
 abbrev stayed : Stays (f.ended .signature .params) (f.ended .kept)
 stayed = (stay-slice (0 ∷ []) tt (plain (λ _. T.the-row)), (stay-none (λ _. usize) yes, tt))
-
-fits-place : {i n : ℕ} → i < n → n * 60 < 2 ^ 63 → i * 60 < 2 ^ 64
-fits-place l r = omega (arith, l, r)
 
 module _ {M : Type 1} (𝓤 : URA M) (H : Heap 𝓤) (A : Atoms 𝓤) (mem : Memory → SProp 𝓤) (run : Routine → Fun 𝓤) where
   -- the contract that the proof cites, and of what it ensures the clause alone
@@ -100,7 +97,7 @@ module _ {M : Type 1} (𝓤 : URA M) (H : Heap 𝓤) (A : Atoms 𝓤) (W : Given
         lands ! 0 refl (LL.lawful T.the-type T′.the-laws 𝓤 H A W .typed n (u ∷ []) n-is .0) $
         ends-within ! 0 Post refl refl refl $ by ! (exits n u ys n-is refl (e₀ ∙ sym (List·getD-eq-default ys wentDown (leb→le _ _ past)), refl))))
         (λ inside. let l = nleb→lt (length ys) i inside in
-        resets ! 0 (bin ! (var ! 0 refl) (lit ! tt) (record { fits = fits-place l (room .1) })) refl (tt, record { fits = fits-place l (room .1) }) $ aims ! 0 60 i refl refl refl refl refl tt $
+        resets ! 0 (bin ! (var ! 0 refl) (lit ! tt) (record { fits = fits-here l (room .1) })) refl (tt, record { fits = fits-here l (room .1) }) $ aims ! 0 recordSize i refl refl refl refl refl tt $
         move ! (14 ∷ 15 ∷ 16 ∷ []) $ opens-slice ! tt T.the-row ys b o $ elem-out ! T.the-row (Is T.the-row) (shows 𝓤 H A T.the-row) (λ n. nodeVal n ∷ []) node-tells fullShare ys i wentDown b o l (λ g.
         -- [nodes[i]; what it owns; the others; the open borrow; obs; auth; the locals]
         let typed = LL.lawful T.the-type T′.the-laws 𝓤 H A W .typed elem (nodeVal elem ∷ []) g .0 in

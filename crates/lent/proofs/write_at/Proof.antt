@@ -1,7 +1,7 @@
 -- `lent::write_at` meets its contract: a walk of its MIR, by hand.
 -- Assumes nothing.
 use mathlib.Core.Path.{_≡_, refl, sym}
-use Prim.Native.Nat.{ℕ, _<_, _*_, _^_}
+use Prim.Native.Nat.{ℕ, _<_, _^_}
 use native.Mathlib.Omega.{arith}
 use mathlib.Core.List.{List, [], _∷_}
 use lib.Dec.{leb→le, nleb→lt}
@@ -39,7 +39,7 @@ use denote.Exit.{yes}
 use Rattle.node.specs.declared.Node.{Node}
 use Rattle.events.specs.Events.{wentDown}
 use Rattle.lent.proofs.Walk.{var, fvar, sets, resets, aims, stores, guards, ends, ends-within}
-use Rattle.lent.proofs.Rows.{nodeVal, node-tells}
+use Rattle.lent.proofs.Rows.{recordSize, fits-here, nodeVal, node-tells}
 use Rattle.lent.proofs.Slice.{at-list, Had, opening, closing}
 use Rattle.node.proofs.Node as T
 use Rattle.node.proofs.Node.Laws as T′
@@ -50,9 +50,6 @@ use Rattle.lent.proofs.write_at.Code as code
 
 abbrev stayed : Stays (f.ended .signature .params) (f.ended .kept)
 stayed = (stay-slice (0 ∷ []) tt (plain (λ _. T.the-row)), (stay-none (λ _. usize) yes, (stay-none (λ _. T.the-row) yes, tt)))
-
-fits-place : {i n : ℕ} → i < n → n * 60 < 2 ^ 63 → i * 60 < 2 ^ 64
-fits-place l r = omega (arith, l, r)
 
 module _ {M : Type 1} (𝓤 : URA M) (H : Heap 𝓤) (A : Atoms 𝓤) (W : Given 𝓤 H A) (mem : Memory → SProp 𝓤) (run : Routine → Fun 𝓤) (κ : Lft) (q : Share) (b o : ℕ) (γ : GName)
     (ys : List Node) (i : ℕ) (node : Node) (nv : Val) (i-fits : i < 2 ^ 64) (node-is : Is T.the-row node (nv ∷ [])) (room : Room T.the-row (length ys)) where
@@ -83,7 +80,7 @@ module _ {M : Type 1} (𝓤 : URA M) (H : Heap 𝓤) (A : Atoms 𝓤) (W : Given
         guards ! (var ! 0 refl)
         (λ past. sets ! 0 (of-opd ! (unit-lit !)) refl (tt, tt) $ ends-within ! 0 Post refl refl refl $ by ! (exits ys refl (sym (set-out ys i node (leb→le _ _ past)))))
         (λ inside. let l = nleb→lt (length ys) i inside in
-        resets ! 0 (bin ! (var ! 0 refl) (lit ! tt) (record { fits = fits-place l (room .1) })) refl (tt, record { fits = fits-place l (room .1) }) $ aims ! 0 60 i refl refl refl refl refl tt $
+        resets ! 0 (bin ! (var ! 0 refl) (lit ! tt) (record { fits = fits-here l (room .1) })) refl (tt, record { fits = fits-here l (room .1) }) $ aims ! 0 recordSize i refl refl refl refl refl tt $
         move ! (14 ∷ 15 ∷ 16 ∷ []) $ opens-slice ! tt T.the-row ys b o $ elem-out ! T.the-row (Is T.the-row) (shows 𝓤 H A T.the-row) (λ n. nodeVal n ∷ []) node-tells fullShare ys i wentDown b o l (λ g.
         -- [nodes[i]; what it owns; the others; the open borrow; obs; auth; the locals]
         stores ! 6 (of-opd ! (var ! 6 refl)) refl (store-raw ! 0 refl typed) $

@@ -9,6 +9,7 @@ use Rattle.refusals.specs.Tests.{refusal, numbered, testAt}
 use Rattle.refusals.specs.laws.Tests.{each-passed}
 use Rattle.refusals.specs.laws.Bools.{left, right}
 use Rattle.time.specs.declared.Dts.{Dts}
+use Rattle.time.specs.laws.Fresh.{latestClock}
 use Rattle.senders.specs.Masks.{room, isIn, size, within}
 use Rattle.steps.specs.declared.Beginning.{Beginning}
 use Rattle.steps.specs.declared.Event.{Event}
@@ -37,10 +38,6 @@ module _ (site : Site) (lent : ℕ) (node : Node) (step : Step) where
   pub row-passed : (k : ℕ) → Passes → testAt k (tableFor site lent node (named step)) ≡ true
   unfolding testsOf
   row-passed k e = each-passed k (tableFor site lent node (named step)) refl e
-
--- the last clock that a step can name
-abbrev pub latestClock : ℕ
-latestClock = lastG + 1
 
 -- a Start: row 1
 pub record Begins (lent : ℕ) (b : Beginning) : Type 0 where

@@ -9,6 +9,7 @@ use Rattle.refusals.specs.Tests.{refusal}
 use Rattle.refusals.specs.laws.Bools.{and-assoc}
 use Rattle.time.specs.declared.Dts.{Dts}
 use Rattle.time.specs.Fresh.{fresh}
+use Rattle.time.specs.Limits.{lastHeldClock, stampSound, clockSound}
 use Rattle.senders.specs.Masks.{isIn, size, within}
 use Rattle.store.specs.Store.{storeWithin}
 use Rattle.store.specs.Held.{held}
@@ -19,7 +20,7 @@ use Rattle.node.specs.declared.Node.{Node}
 use Rattle.node.specs.Asked.{nodeSound}
 use Rattle.breaker.specs.Breaker.{changesSound, breakerSound}
 use Rattle.site.specs.declared.Site.{Site}
-use Rattle.site.specs.Site.{nodes, n, g, mostF, mostK, firstG, lastStartG, setsSound, siteSound, actorSound}
+use Rattle.site.specs.Site.{nodes, n, g, mostF, mostK, firstG, lastStartG, lastG, setsSound, siteSound, actorSound}
 use Rattle.refusing.specs.Tests.{counted, phaseTakes, lastClock, canBegin, tableFor, testsOf}
 use Rattle.rows.specs.Exactly.{Condition, NoneBefore, None, Tells, Tell, no-rows, also}
 use Rattle.rows.specs.laws.Exactly.{exactly, exactly-done, at-most}
@@ -36,31 +37,31 @@ site-tells site lent node step =
     spelled spelling
     (itself (site .started)
     or above (n site) lent
-    or above (site .f) 4
-    or above (site .k) 3
-    or above 2 (g site .0)
-    or above (g site .0) 1_000_000_000
+    or above (site .f) mostF
+    or above (site .k) mostK
+    or above firstG (g site .0)
+    or above (g site .0) lastG
     or outsider (site .compromised) (n site)
     or above (size (site .compromised)) (site .f)
     or outsider (site .down) (n site)
     or store-tells (site .made) (n site)
     or pair-tells (site .breaker .pair)
-    or above (site .breaker .clock .0) 1_000_000_003
+    or above (site .breaker .clock .0) lastHeldClock
     or changes-tell (site .breaker .changes))
   where
     spelling : siteSound site lent
         ≡ (site .started
         && (leb (n site) lent
-        && (leb (site .f) 4
-        && (leb (site .k) 3
-        && (leb 2 (g site .0)
-        && (leb (g site .0) 1_000_000_000
+        && (leb (site .f) mostF
+        && (leb (site .k) mostK
+        && (leb firstG (g site .0)
+        && (leb (g site .0) lastG
         && (within (site .compromised) (n site)
         && (leb (size (site .compromised)) (site .f)
         && (within (site .down) (n site)
         && (storeWithin (site .made) (n site)
-        && ((leb (site .breaker .pair .status) 1 && leb (site .breaker .pair .stamp .0) 1_000_000_003)
-        && (leb (site .breaker .clock .0) 1_000_000_003 && changesSound (site .breaker .changes)))))))))))))
+        && ((leb (site .breaker .pair .status) 1 && stampSound (site .breaker .pair .stamp))
+        && (clockSound (site .breaker .clock) && changesSound (site .breaker .changes)))))))))))))
     spelling = simp and-assoc
 
 actor-tells : (site : Site) (node : Node) (i : ℕ) {C : Type 0} → Tells (nodeSound node (n site)) C → Tells (actorSound site node i) ((i < n site) × C)

@@ -7,7 +7,7 @@ use native.Mathlib.Nat.{not-suc-le-zero}
 use native.Mathlib.Omega.{arith}
 use Rattle.refusals.specs.laws.Bools.{and-assoc}
 use Rattle.time.specs.Newer.{ahead, newer}
-use Rattle.time.specs.Limits.{stampSound}
+use Rattle.time.specs.Limits.{lastHeldStamp, lastHeldClock, stampSound, clockSound}
 use Rattle.tables.specs.Tables.{table}
 use Rattle.store.specs.declared.Store.{Store}
 use Rattle.store.specs.Store.{places, setAt, allWithin, storeWithin}
@@ -28,7 +28,7 @@ use Rattle.refusing.specs.Tests.{nodeClock}
 use Rattle.rows.specs.Exactly.{Tells}
 use Rattle.rows.specs.Outsiders.{Outsider}
 use Rattle.rows.specs.laws.Outsiders.{outsider}
-use Rattle.rows.specs.Conditions.{TooLate, KnownTooLate, ResendTooLate, SenderOutside, PairOutOfRange, ChangesOutOfRange, PhaseTooLate, NotNewAfter, NotInAttempt, NoStampResent}
+use Rattle.rows.specs.Conditions.{ClockTooLate, KnownTooLate, ResendTooLate, SenderOutside, PairOutOfRange, ChangesOutOfRange, PhaseTooLate, NotNewAfter, NotInAttempt, NoStampResent}
 use Rattle.rows.specs.laws.Telling.{above, equal, _or_, worded, spelled}
 
 -- one of the first places of a list that a rule makes
@@ -58,7 +58,7 @@ unfolding storeWithin
 store-tells s n = senders-tell n places (setAt s)
 
 pub pair-tells : (p : Pair) → Tells (pairSound p) (PairOutOfRange p)
-pair-tells p = above (p .status) 1 or above (p .stamp .0) 1_000_000_003
+pair-tells p = above (p .status) 1 or above (p .stamp .0) lastHeldStamp
 
 pairs-tell : (m : ℕ) (rule : ℕ → Pair) → Tells (allSound (table m rule)) (OnePlace m λ k. PairOutOfRange (rule k))
 unfolding table
@@ -71,11 +71,11 @@ unfolding changesSound
 changes-tell changes = above (changes .count) 8 or pairs-tell mostChanges (pairAt changes)
 
 known-tells : (k : Known) → Tells (knownSound k) (KnownTooLate k)
-known-tells (Yes p) = above (p .stamp .0) 1_000_000_003
+known-tells (Yes p) = above (p .stamp .0) lastHeldStamp
 known-tells No = (λ e. absurd (true≢false e), absurd)
 
 resend-tells : (r : Resend) → Tells (resendSound r) (ResendTooLate r)
-resend-tells (Armed T) = above (T .0) 1_000_000_003
+resend-tells (Armed T) = above (T .0) lastHeldStamp
 resend-tells Off = (λ e. absurd (true≢false e), absurd)
 
 -- for a node by its phase and its store
@@ -84,22 +84,22 @@ module _ (s : Store) where
   at p = record { phase = p; store = s }
 
   abbrev RecordTooLate : Phase → ℕ → Type 0
-  RecordTooLate p n = TooLate (s .clock) ⊎ SenderOutside s n ⊎ PhaseTooLate p
+  RecordTooLate p n = ClockTooLate (s .clock) ⊎ SenderOutside s n ⊎ PhaseTooLate p
 
   -- the three tests of a record in the order of the words
   record-tells : (p : Phase) (n : ℕ) → Tells (nodeSound (at p) n) (RecordTooLate p n)
   unfolding nodeSound
   record-tells NotUp n =
-      spelled (and-assoc (stampSound (s .clock)) (storeWithin s n) true)
-      (above (s .clock .0) 1_000_000_003 or store-tells s n or (λ e. absurd (true≢false e), absurd))
+      spelled (and-assoc (clockSound (s .clock)) (storeWithin s n) true)
+      (above (s .clock .0) lastHeldClock or store-tells s n or (λ e. absurd (true≢false e), absurd))
   record-tells (Starting l) n =
-      spelled (and-assoc (stampSound (s .clock)) (storeWithin s n) (knownSound (l .r) && knownSound (l .b)))
-      (above (s .clock .0) 1_000_000_003 or store-tells s n or (known-tells (l .r) or known-tells (l .b)))
+      spelled (and-assoc (clockSound (s .clock)) (storeWithin s n) (knownSound (l .r) && knownSound (l .b)))
+      (above (s .clock .0) lastHeldClock or store-tells s n or (known-tells (l .r) or known-tells (l .b)))
   record-tells (Running rec) n =
       spelled
-      (and-assoc (stampSound (s .clock)) (storeWithin s n) (stampSound (rec .r .stamp) && stampSound (rec .b .stamp) && resendSound (rec .resend))
-      ∙ ap (λ (x : Bool). stampSound (s .clock) && (storeWithin s n && x)) (and-assoc (stampSound (rec .r .stamp)) (stampSound (rec .b .stamp)) (resendSound (rec .resend))))
-      (above (s .clock .0) 1_000_000_003 or store-tells s n or (above (rec .r .stamp .0) 1_000_000_003 or above (rec .b .stamp .0) 1_000_000_003 or resend-tells (rec .resend)))
+      (and-assoc (clockSound (s .clock)) (storeWithin s n) (stampSound (rec .r .stamp) && stampSound (rec .b .stamp) && resendSound (rec .resend))
+      ∙ ap (λ (x : Bool). clockSound (s .clock) && (storeWithin s n && x)) (and-assoc (stampSound (rec .r .stamp)) (stampSound (rec .b .stamp)) (resendSound (rec .resend))))
+      (above (s .clock .0) lastHeldClock or store-tells s n or (above (rec .r .stamp .0) lastHeldStamp or above (rec .b .stamp .0) lastHeldStamp or resend-tells (rec .resend)))
 
   attempt-tells : (p : Phase) → Tells (inAttempt (at p)) (NotInAttempt p)
   attempt-tells NotUp = (λ e. tt, λ h. refl)
@@ -135,7 +135,7 @@ newer-tells number Unknown = (λ e. absurd (true≢false e), absurd)
 pub new-tells : (node : Node) (number : ℕ) → Tells (isNew node number) (NotNewAfter number (lastNumber (node .phase)))
 new-tells node number = newer-tells number (lastNumber (node .phase))
 
-pub node-tells : (node : Node) (n : ℕ) → Tells (nodeSound node n) (TooLate (nodeClock node) ⊎ SenderOutside (node .store) n ⊎ PhaseTooLate (node .phase))
+pub node-tells : (node : Node) (n : ℕ) → Tells (nodeSound node n) (ClockTooLate (nodeClock node) ⊎ SenderOutside (node .store) n ⊎ PhaseTooLate (node .phase))
 node-tells node n = record-tells (node .store) (node .phase) n
 
 pub in-attempt-tells : (node : Node) → Tells (inAttempt node) (NotInAttempt (node .phase))

@@ -9,7 +9,7 @@ use lib.Dec.{eqb}
 use borrow.Author.Tests.{leb-true}
 use Rattle.time.specs.declared.Dts.{Dts}
 use Rattle.time.specs.Fresh.{fresh, window}
-use Rattle.time.specs.laws.Fresh.{fresh-ahead, fresh-then}
+use Rattle.time.specs.laws.Fresh.{latestClock, fresh-ahead, fresh-then}
 use Rattle.senders.specs.Masks.{room}
 use Rattle.store.specs.declared.Store.{Store}
 use Rattle.store.specs.Store.{empty, movedTo}
@@ -37,7 +37,7 @@ use Rattle.steps.specs.Named.{report, ack, query, saidBy, among, ofNamed}
 use Rattle.acting.specs.Acting.{acted}
 use Rattle.acting.specs.laws.Relay.{reports, statusIn, relayAfter, relay-told, relay-known}
 use Rattle.acting.specs.laws.Running.{remembers, goes-on as event-goes, breaker-known, left-quiet}
-use Rattle.acting.specs.laws.Shares.{latestClock, IsAction}
+use Rattle.acting.specs.laws.Shares.{IsAction}
 use Rattle.acting.specs.laws.Stores.{Delivers, broughtBy, clock-after, held-after, brought-fresh, began-empty}
 use Rattle.site.specs.declared.Sent.{Sent}
 use Rattle.refusing.specs.Tests.{isStatus}

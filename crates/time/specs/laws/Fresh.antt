@@ -9,6 +9,10 @@ use borrow.Author.Tests.{le-leb, lt-leb, leb-true, leb-false, eqb-true}
 use Rattle.time.specs.declared.Dts.{Dts}
 use Rattle.time.specs.Fresh.{fresh, freshAt, next, window}
 
+-- the last clock that a step can name: "so t may be 1,000,000,001"
+abbrev pub latestClock : ℕ
+latestClock = 1_000_000_001
+
 -- the same with sums alone
 pub fresh-sums : (T t : ℕ) → freshAt T t ≡ (leb t (T + window) && leb T (t + window))
 fresh-sums T t = ap (λ (b : Bool). b && leb T (t + window)) (go (leb t (T + window)) refl)
