@@ -1,23 +1,19 @@
--- The machine values of records, outcomes and what is told, shut: a walk carries them, and never looks inside.
---     recordSize, fits-place, fits-here     how long a record is in memory, and that a record's place can be told by a number
---     nodeVal, node-tells      of a record, and that its type relates it to no other
+-- The machine values of outcomes and of what is told, shut: a walk carries them, and never looks inside.
 --     Parts, out-parts         an outcome is a struct of three values, each that of its part
 --     toldTy, toldVal, told-is     what is told, of the types and the values of its parts
 --     ToldParts, told-parts    it is a struct of two values, each that of its part
 -- Assumes nothing.
-use Prim.Native.Nat.{ℕ, _<_, _≤_, _*_, _^_}
 use mathlib.Core.Path.{_≡_, refl}
-use native.Mathlib.Omega.{arith}
 use mathlib.Core.List.{[], _∷_}
 use mir.Syntax.{Head, Ty, tyStruct, tcons, tnil}
 use mir.Val.{Val, vstruct, vcons, vnil}
-use denote.Laws.{Is, Tells}
+use denote.Laws.{Is}
 use denote.Struct.Laws as LL
 use denote.Enum.Laws as LE
 use Rattle.node.specs.declared.Node.{Node}
 use Rattle.site.specs.declared.Out.{Out}
 use Rattle.lent.specs.declared.Told.{Told}
-use Rattle.lent.proofs.Shut.{symOf, headOf}
+use Rattle.loans.proofs.Shut.{symOf, headOf}
 use Rattle.node.proofs.Node as T
 use Rattle.node.proofs.Node.Laws as T′
 use Rattle.site.proofs.Answer as N
@@ -28,23 +24,6 @@ use Rattle.site.proofs.Out as O
 use Rattle.site.proofs.Out.Laws as O′
 use Rattle.lent.proofs.Told as B
 use Rattle.lent.proofs.Told.Laws as B′
-
--- A record that gains a field is longer: this is the one place that says how long.
-abbrev pub recordSize : ℕ
-recordSize = 60
-
-pub fits-place : {i n m : ℕ} → i < n → n ≤ m → m * recordSize < 2 ^ 63 → i * recordSize < 2 ^ 64
-fits-place l h r = omega (arith, l, h, r)
-
-pub fits-here : {i n : ℕ} → i < n → n * recordSize < 2 ^ 63 → i * recordSize < 2 ^ 64
-fits-here l r = omega (arith, l, r)
-
-unfoldable pub nodeVal : Node → Val
-nodeVal n = LL.val T.the-type T′.the-laws n
-
-pub node-tells : Tells T.the-row (Is T.the-row) (λ n. nodeVal n ∷ [])
-unfolding nodeVal
-node-tells = LL.tells T.the-type T′.the-laws
 
 pub record Parts (r : Out) (w : Val) : Type 0 where
   pub av : Val

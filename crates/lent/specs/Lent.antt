@@ -5,7 +5,6 @@ use mathlib.Core.Path.{_≡_}
 use mathlib.Core.List.{List, _++_}
 use mathlib.Core.Option.{Option, none, some}
 use lib.ListN.{length, getD, set, take, drop}
-use Rattle.tables.specs.Tables.{table}
 use Rattle.node.specs.declared.Node.{Node}
 use Rattle.events.specs.Events.{wentDown}
 use Rattle.steps.specs.declared.Step.{Step}
@@ -16,8 +15,8 @@ use Rattle.site.specs.declared.Answer.{Answer}
 use Rattle.site.specs.declared.Answer.the-variants.{Done, Refused}
 use Rattle.site.specs.declared.Out.{Out}
 use Rattle.site.specs.Site.{nodes}
-use Rattle.effects.specs.Effects.{firstRecord}
 use Rattle.stepping.specs.Steps.{stepped}
+use Rattle.loans.specs.Loans.{firstRecords}
 
 -- the record of the node that a step names, where the table has one
 abbrev pub recordOf : Option ℕ → List Node → Node
@@ -27,10 +26,6 @@ recordOf (some i) records = getD records i wentDown
 -- the step with that record
 unfoldable pub outOf : Site → List Node → Step → Out
 outOf site records step = stepped site (length records) (recordOf (named step .actor) records) step
-
--- the records that a Start makes, in front of those that it leaves
-abbrev pub firstRecords : ℕ → ℕ → List Node → List Node
-firstRecords n compromised records = table n (firstRecord compromised) ++ drop n records
 
 -- the table after an answer to a step
 abbrev pub afterDone : Step → List Node → Node → List Node

@@ -5,11 +5,9 @@ use site::Answer;
 use site::Site;
 use steps::Step;
 ghost use mathlib.Core.Path.{_≡_};
-ghost use Prim.Native.Nat.{_<_, _≤_};
-ghost use lib.ListN.{length, getD, set};
-ghost use Rattle.events.specs.Events.{wentDown};
-ghost use Rattle.effects.specs.Effects.{firstRecord};
-ghost use Rattle.lent.specs.Lent.{firstRecords, Said, SaidWithin};
+ghost use Prim.Native.Nat.{_≤_};
+ghost use lib.ListN.{length, set};
+ghost use Rattle.lent.specs.Lent.{Said, SaidWithin};
 ghost use Rattle.steps.specs.Named.{named};
 ghost use Rattle.lent.specs.laws.InTurn.{indexOf, startsOf, beginsOf, compromisedOf, outAt};
 
@@ -73,56 +71,16 @@ fn compromised_of(step: Step) -> u16
     }
 }
 
-// The record of node i at a start.
-fn fresh(compromised: u16, i: usize) -> Node
-    requires { ⌜ i < 12 ⌝ }
-    ensures { λ out. ⌜ out ≡ firstRecord compromised i ⌝ }
-{
-    effects::first_record(compromised, i as u8)
-}
-
-// The record at i; where there is none, that of a node that is down.
-fn record_at(nodes: &mut [Node], i: usize) -> Node
-    ensures { λ out. ⌜ (out ≡ getD (now (nodes .entry)) i wentDown) × (now (nodes .exit) ≡ now (nodes .entry)) ⌝ }
-{
-    if nodes.len() <= i {
-        return events::down();
-    }
-    nodes[i]
-}
-
-// A record goes to its place, where there is one.
-fn write_at(nodes: &mut [Node], i: usize, node: Node)
-    ensures { λ out. ⌜ now (nodes .exit) ≡ set (now (nodes .entry)) i node ⌝ }
-{
-    if i >= nodes.len() {
-        return;
-    }
-    nodes[i] = node;
-}
-
 // A step with the record at i, which is written back; where there is none, with the record of a node that is down.
 fn act(nodes: &mut [Node], site: Site, i: usize, step: Step) -> Told
     ensures { λ out. ⌜ (out .answer ≡ outAt site (now (nodes .entry)) i step .answer) × ((out .site ≡ outAt site (now (nodes .entry)) i step .site) × (now (nodes .exit) ≡ set (now (nodes .entry)) i (outAt site (now (nodes .entry)) i step .node))) ⌝ }
 {
-    let node = record_at(nodes, i);
+    let node = loans::record_at(nodes, i);
     let out = stepping::step(site, nodes.len(), node, step);
-    write_at(nodes, i, out.node);
+    loans::write_at(nodes, i, out.node);
     Told {
         answer: out.answer,
         site: out.site,
-    }
-}
-
-// The first n records are set anew, and the others left.
-fn fill(nodes: &mut [Node], n: usize, compromised: u16)
-    requires { ⌜ (n ≤ 12) × (n ≤ length (now nodes)) ⌝ }
-    ensures { λ out. ⌜ now (nodes .exit) ≡ firstRecords n compromised (now (nodes .entry)) ⌝ }
-{
-    let mut i = 0;
-    while i < n {
-        nodes[i] = fresh(compromised, i);
-        i = i + 1;
     }
 }
 
@@ -134,7 +92,7 @@ pub fn step(site: Site, nodes: &mut [Node], step: Step) -> Told
     let told = act(nodes, site, i, step);
     let n = begins(told.answer, step);
     let compromised = compromised_of(step);
-    fill(nodes, n, compromised);
+    loans::fill(nodes, n, compromised);
     told
 }
 

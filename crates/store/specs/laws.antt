@@ -6,8 +6,3 @@ pub mod HeldLaws
 pub mod EarliestLaws
 pub mod Own
 pub mod WithinLaws
-pub mod Keeping
-pub mod Alike
-pub mod Before
-pub mod Turning
-pub mod AsBefore

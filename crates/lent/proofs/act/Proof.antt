@@ -48,11 +48,11 @@ use Rattle.stepping.specs.Steps.{stepped}
 use Rattle.lent.specs.declared.Told.{Told}
 use Rattle.lent.specs.laws.InTurn.{outAt}
 use Rattle.lent.specs.laws.TurnLaws.{SaidAt}
-use Rattle.lent.proofs.Walk.{var, fvar, sets, lands, lands-told, ends}
+use Rattle.loans.proofs.Walk.{var, fvar, sets, lands, lands-told, ends}
 use Rattle.lent.proofs.Rows.{out-parts, toldVal, told-is}
-use Rattle.lent.proofs.Shut.{symOf, headOf, opened, by-names, Of}
-use Rattle.lent.proofs.Slice.{at-list, Had, opening, closing, asks, calls-by}
-use Rattle.lent.proofs.Pass.{lent, calls-slice}
+use Rattle.loans.proofs.Shut.{symOf, headOf, opened, by-names, Of}
+use Rattle.loans.proofs.Slice.{at-list, Had, opening, closing, asks, calls-by}
+use Rattle.loans.proofs.Pass.{lent, calls-slice}
 use Rattle.node.proofs.Node as T
 use Rattle.node.proofs.Node.Laws as T′
 use Rattle.site.proofs.Answer.Laws as N′
@@ -64,14 +64,14 @@ use Rattle.site.proofs.Out as O
 use Rattle.site.proofs.Out.Laws as O′
 use Rattle.lent.proofs.Told as B
 use Rattle.lent.proofs.Told.Laws as B′
-use Rattle.lent.proofs.record_at as record-at
-use Rattle.lent.proofs.record_at.Symbol as record-at-def
-use Rattle.lent.proofs.record_at.Symbol.{name as #record-at}
-use Rattle.lent.proofs.record_at.Met as record-at-thm
-use Rattle.lent.proofs.write_at as write-at
-use Rattle.lent.proofs.write_at.Symbol as write-at-def
-use Rattle.lent.proofs.write_at.Symbol.{name as #write-at}
-use Rattle.lent.proofs.write_at.Met as write-at-thm
+use Rattle.loans.proofs.record_at as record-at
+use Rattle.loans.proofs.record_at.Symbol as record-at-def
+use Rattle.loans.proofs.record_at.Symbol.{name as #record-at}
+use Rattle.loans.proofs.record_at.Met as record-at-thm
+use Rattle.loans.proofs.write_at as write-at
+use Rattle.loans.proofs.write_at.Symbol as write-at-def
+use Rattle.loans.proofs.write_at.Symbol.{name as #write-at}
+use Rattle.loans.proofs.write_at.Met as write-at-thm
 use Rattle.stepping.proofs.step as step
 use Rattle.stepping.proofs.step.Symbol as step-def
 use Rattle.stepping.proofs.step.Symbol.{name as #step}
@@ -208,6 +208,6 @@ act-spec 𝓤 H 𝓜 𝓖 𝓡 =
     entered 𝓤 H (tripleOf 𝓤 H (𝓖 .A) f.signature (f.spec 𝓤 H (𝓖 .A) (𝓜 .mem) (𝓡 .run)))
     (tables 𝓤 H 𝓜 𝓡 code.env .C) (tables 𝓤 H 𝓜 𝓡 code.env .Λ) #f code.function (code.unfolded 𝓤 H 𝓜 𝓡)
     (meets 𝓤 H (𝓖 .A) (givenOf 𝓤 H 𝓜 𝓖) (𝓜 .mem) (𝓡 .run) (tablesOf 𝓤 H 𝓜 (tables 𝓤 H 𝓜 𝓡 code.env))
-    (cited 𝓤 H (RecordAt 𝓤 H (𝓖 .A) (𝓜 .mem) (𝓡 .run)) 𝓜 𝓡 code.env #record-at record-at-def.routine code.calls-lent·record-at (record-at-thm.met 𝓤 H 𝓜 𝓖 𝓡))
+    (cited 𝓤 H (RecordAt 𝓤 H (𝓖 .A) (𝓜 .mem) (𝓡 .run)) 𝓜 𝓡 code.env #record-at record-at-def.routine code.calls-loans·record-at (record-at-thm.met 𝓤 H 𝓜 𝓖 𝓡))
     (cited 𝓤 H (Stepping 𝓤 H (𝓖 .A) (𝓜 .mem) (𝓡 .run)) 𝓜 𝓡 code.env #step step-def.routine code.calls-stepping·step (step-thm.met 𝓤 H 𝓜 𝓖 𝓡))
-    (cited 𝓤 H (WriteAt 𝓤 H (𝓖 .A) (𝓜 .mem) (𝓡 .run)) 𝓜 𝓡 code.env #write-at write-at-def.routine code.calls-lent·write-at (write-at-thm.met 𝓤 H 𝓜 𝓖 𝓡)))
+    (cited 𝓤 H (WriteAt 𝓤 H (𝓖 .A) (𝓜 .mem) (𝓡 .run)) 𝓜 𝓡 code.env #write-at write-at-def.routine code.calls-loans·write-at (write-at-thm.met 𝓤 H 𝓜 𝓖 𝓡)))

@@ -55,10 +55,11 @@ use Rattle.site.specs.declared.Site.{Site}
 use Rattle.lent.specs.declared.Told.{Told}
 use Rattle.lent.specs.declared.Whole.{Whole}
 use Rattle.lent.specs.Lent.{Said, SaidWithin}
-use Rattle.lent.proofs.Walk.{var, fvar, sets, lands-told, ends}
-use Rattle.lent.proofs.Shut.{headOf, opened, by-names, Of}
-use Rattle.lent.proofs.Rows.{toldTy, nodeVal, node-tells, told-parts}
-use Rattle.lent.proofs.Arrays.{array-cells, cells-array}
+use Rattle.loans.proofs.Walk.{var, fvar, sets, lands-told, ends}
+use Rattle.loans.proofs.Shut.{headOf, opened, by-names, Of}
+use Rattle.lent.proofs.Rows.{toldTy, told-parts}
+use Rattle.loans.proofs.Records.{nodeVal, node-tells}
+use Rattle.loans.proofs.Arrays.{array-cells, cells-array}
 use Rattle.node.proofs.Node as T
 use Rattle.node.proofs.Node.Laws as T′
 use Rattle.site.proofs.Answer as N

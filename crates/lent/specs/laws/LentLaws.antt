@@ -1,14 +1,12 @@
--- Laws of the lent table: records that are made one by one, and what a step that is done has found in the table.
-use Prim.Native.Nat.{ℕ, zero, suc, _≤_, _<_}
+-- Laws of the lent table: what a step that is done has found in it, and the first records of it.
+use Prim.Native.Nat.{ℕ, _≤_, _<_}
 use mathlib.Core.Path.{_≡_, refl, sym, ap, ap₂, subst, _∙_}
 use mathlib.Core.Bool.{false}
-use mathlib.Core.List.{List, [], _∷_, _++_, append-nil}
+use mathlib.Core.List.{List, _++_, append-nil}
 use mathlib.Core.Option.{Option, none, some}
-use native.Mathlib.Nat.{not-suc-le-zero, le-of-suc-le-suc}
 use native.Mathlib.Omega.{arith}
-use lib.ListN.{length, set, drop, drop-of-length-le}
+use lib.ListN.{length, drop-of-length-le}
 use lib.Seq.{take-all}
-use Rattle.tables.specs.Tables.{table}
 use Rattle.node.specs.declared.Node.{Node}
 use Rattle.steps.specs.declared.Step.{Step}
 use Rattle.steps.specs.declared.Step.the-variants.{Start, Tick, AtNode, Life, AtBreaker}
@@ -16,41 +14,12 @@ use Rattle.site.specs.declared.Site.{Site}
 use Rattle.site.specs.declared.Answer.{Answer}
 use Rattle.site.specs.declared.Answer.the-variants.{Done, Refused}
 use Rattle.refusing.specs.laws.Accepted.{Passes, begins, happens, turns}
-use Rattle.effects.specs.Effects.{firstRecord, effectOf}
+use Rattle.effects.specs.Effects.{effectOf}
 use Rattle.stepping.specs.laws.StepLaws.{by-tests}
 use Rattle.site.specs.Answers.{isDone}
-use Rattle.lent.specs.Lent.{recordOf, outOf, firstRecords, tableAfter, Said, SaidWithin}
+use Rattle.lent.specs.Lent.{recordOf, outOf, tableAfter, Said, SaidWithin}
 use Rattle.steps.specs.Named.{named}
 use Rattle.lent.specs.laws.InTurn.{startsOf, beginsOf}
-
--- ---- records that are made
-
-module _ {A : Type 0} where
-  -- a list whose first n places are the rule's, and the next of them
-  fronted-more : (n : ℕ) (rule : ℕ → A) (l : List A) → n < length l → set (table n rule ++ drop n l) n (rule n) ≡ table (suc n) rule ++ drop (suc n) l
-  unfolding table
-  fronted-more n rule [] h = absurd (not-suc-le-zero h)
-  fronted-more zero rule (x ∷ xs) h = refl
-  fronted-more (suc n) rule (x ∷ xs) h = ap (λ (l : List A). rule zero ∷ l) (fronted-more n (λ i. rule (suc i)) xs (le-of-suc-le-suc h))
-
-  fronted-length : (n : ℕ) (rule : ℕ → A) (l : List A) → n ≤ length l → length (table n rule ++ drop n l) ≡ length l
-  unfolding table
-  fronted-length zero rule l h = refl
-  fronted-length (suc n) rule [] h = absurd (not-suc-le-zero h)
-  fronted-length (suc n) rule (x ∷ xs) h = ap suc (fronted-length n (λ i. rule (suc i)) xs (le-of-suc-le-suc h))
-
-module _ (compromised : ℕ) (records : List Node) where
-  -- no record is made
-  pub begun-none : records ≡ firstRecords 0 compromised records
-  unfolding table
-  begun-none = refl
-
-  -- one more is
-  pub begun-more : (n : ℕ) → n < length records → set (firstRecords n compromised records) n (firstRecord compromised n) ≡ firstRecords (suc n) compromised records
-  begun-more n h = fronted-more n (firstRecord compromised) records h
-
-  pub begun-length : (n : ℕ) → n ≤ length records → length (firstRecords n compromised records) ≡ length records
-  begun-length n h = fronted-length n (firstRecord compromised) records h
 
 -- ---- a step that is done names a node of the table, or none
 
@@ -75,30 +44,26 @@ named-refused site records step i is past =
 
 -- ---- a Start that is done has its records in the table
 
-starts-within : (site : Site) (lent : ℕ) (node : Node) (step : Step) → Passes site lent node step → (startsOf step ≤ 12) × (startsOf step ≤ lent)
-starts-within site lent node (Start b) e =
-    let begun = begins site lent node b e in
-    let most-f = begun .most-f in
-    let most-k = begun .most-k in
-    (omega (arith, most-f, most-k), begun .lends)
-starts-within site lent node Tick e = (omega arith, omega arith)
-starts-within site lent node (AtNode i t event) e = (omega arith, omega arith)
-starts-within site lent node (Life i turn) e = (omega arith, omega arith)
-starts-within site lent node (AtBreaker t act) e = (omega arith, omega arith)
+starts-within : (site : Site) (lent : ℕ) (node : Node) (step : Step) → Passes site lent node step → startsOf step ≤ lent
+starts-within site lent node (Start b) e = begins site lent node b e .lends
+starts-within site lent node Tick e = omega arith
+starts-within site lent node (AtNode i t event) e = omega arith
+starts-within site lent node (Life i turn) e = omega arith
+starts-within site lent node (AtBreaker t act) e = omega arith
 
 begins-le : (answer : Answer) (step : Step) → beginsOf answer step ≤ startsOf step
 begins-le (Done sent) step = omega arith
 begins-le (Refused number) step = omega arith
 
-pub begins-within : (site : Site) (records : List Node) (step : Step) → (beginsOf (outOf site records step .answer) step ≤ 12) × (beginsOf (outOf site records step .answer) step ≤ length records)
+pub begins-within : (site : Site) (records : List Node) (step : Step) → beginsOf (outOf site records step .answer) step ≤ length records
 unfolding outOf
 begins-within site records step =
-    by-tests (λ out. (beginsOf (out .answer) step ≤ 12) × (beginsOf (out .answer) step ≤ length records)) site (length records) (recordOf (named step .actor) records) step
+    by-tests (λ out. beginsOf (out .answer) step ≤ length records) site (length records) (recordOf (named step .actor) records) step
     (λ e.
     let least = begins-le (effectOf site (recordOf (named step .actor) records) step .answer) step in
     let most = starts-within site (length records) (recordOf (named step .actor) records) step e in
-    (omega (arith, least, most .0), omega (arith, least, most .1)))
-    (λ number. (omega arith, omega arith))
+    omega (arith, least, most))
+    (λ number. omega arith)
 
 -- ---- the first records of a table
 

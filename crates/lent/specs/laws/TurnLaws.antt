@@ -18,10 +18,12 @@ use Rattle.site.specs.declared.Out.{Out}
 use Rattle.site.specs.Site.{nodes}
 use Rattle.effects.specs.Effects.{effectOf}
 use Rattle.stepping.specs.Steps.{stepped}
-use Rattle.lent.specs.Lent.{recordOf, outOf, firstRecords, tableAfterAnswer, tableAfter, Said}
+use Rattle.loans.specs.Loans.{firstRecords, madeFirst}
+use Rattle.loans.specs.laws.LoanLaws.{begun-none, made-enough}
+use Rattle.lent.specs.Lent.{recordOf, outOf, tableAfterAnswer, tableAfter, Said}
 use Rattle.steps.specs.Named.{named}
 use Rattle.lent.specs.laws.InTurn.{indexOf, outAt, beginsOf, compromisedOf}
-use Rattle.lent.specs.laws.LentLaws.{begun-none, begins-within}
+use Rattle.lent.specs.laws.LentLaws.{begins-within}
 use Rattle.stepping.specs.laws.StepLaws.{by-tests, effect-done}
 use Rattle.site.specs.Answers.{isDone}
 
@@ -76,19 +78,19 @@ module _ (site : Site) (records : List Node) (step : Step) (i n : ℕ) (answer :
   written-is = acted .1 .1 ∙ ap (λ (out : Out). set records i (out .node)) same-out ∙ ap (λ (j : ℕ). set records j (outOf site records step .node)) i-is
 
   -- there are as many records as are to be made
-  pub asked : (n ≤ 12) × (n ≤ length written)
-  asked =
+  enough : n ≤ length written
+  enough =
       let long : length written ≡ length records = ap length (acted .1 .1) ∙ length-set records i (outAt site records i step .node) in
       let most = begins-within site records step in
       let same = n-is in
-      (omega (arith, same, most .0), omega (arith, same, long, most .1))
+      omega (arith, same, long, most)
 
-  pub all-said : (compromised : ℕ) (left : List Node) → compromised ≡ compromisedOf step → left ≡ firstRecords n compromised written → Said site records step answer next left
+  pub all-said : (compromised : ℕ) (left : List Node) → compromised ≡ compromisedOf step → left ≡ madeFirst n compromised written → Said site records step answer next left
   all-said compromised left ec el = (
     same-answer,
     (
       acted .1 .0 ∙ ap (λ (out : Out). out .site) same-out,
-      el ∙ ap (λ (m : ℕ). firstRecords m compromised written) n-is ∙ ap (λ (c : ℕ). firstRecords (beginsOf (outOf site records step .answer) step) c written) ec
+      el ∙ made-enough compromised written n enough ∙ ap (λ (m : ℕ). firstRecords m compromised written) n-is ∙ ap (λ (c : ℕ). firstRecords (beginsOf (outOf site records step .answer) step) c written) ec
           ∙ ap (firstRecords (beginsOf (outOf site records step .answer) step) (compromisedOf step)) written-is ∙ made-and-written site records step,
     ),
   )

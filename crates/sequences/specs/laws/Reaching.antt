@@ -40,7 +40,8 @@ use Rattle.refusing.specs.Tests.{isNode, isStatus}
 use Rattle.refusing.specs.laws.Accepted.{Passes, row-passed, begins, happens, turns}
 use Rattle.effects.specs.Effects.{startedSite, firstRecord, ticked, act, commanded, turned, effectOf}
 use Rattle.stepping.specs.laws.StepLaws.{by-tests}
-use Rattle.lent.specs.Lent.{recordOf, outOf, firstRecords, tableAfter, tableAfterAnswer}
+use Rattle.loans.specs.Loans.{firstRecords}
+use Rattle.lent.specs.Lent.{recordOf, outOf, tableAfter, tableAfterAnswer}
 use Rattle.sequences.specs.History.{Entry, Accepted, nextNumber, lastStart, accepted, atNode, life, oneOf}
 use Rattle.sequences.specs.Moments.{Moment, Reached, from, then}
 use Rattle.sequences.specs.laws.OfEvents.{delivers}

@@ -4,7 +4,7 @@
 --     opening          the walk begins: from what is had at entry to `Had ys`, where the slice is the first parameter
 --     closing          the walk ends: from `Had zs` to what is asked at exit, beside the clause
 --     opening-second, closing-second       the same where the slice is the second
---     asks             what a callee asks, where it has no `requires`.        asks-fact, where that is a fact
+--     asks             what a callee asks, where it has no `requires`
 --     calls-by         the call: its contract c, that the key meets it, what c binds outside, what is asked, the result's type, what is ensured of a
 --                      result, as an assertion and as the fact φ, the operands, and the rest, which has what the result owns at the head.
 --                      The operands are read with one more entry at the head of the context
@@ -33,7 +33,6 @@ use denote.Lend.{Held}
 use denote.Steps.{owned, peeks, heard, nothing}
 use denote.Triple.Statement.{Contract, Triple}
 use denote.Triple.Call.{calls-at}
-use denote.Triple.Walked.{says}
 
 module _ {M : Type 1} {𝓤 : URA M} {H : Heap 𝓤} {A : Atoms 𝓤} (W : Given 𝓤 H A) where
   module _ (R : RattleType) (κ : Lft) (q : Share) (b o : ℕ) (γ : GName) where
@@ -76,9 +75,6 @@ module _ {M : Type 1} {𝓤 : URA M} {H : Heap 𝓤} {A : Atoms 𝓤} (W : Given
 
   pub asks : (Rs : List RattleType) → Makess 𝓤 H A Rs (Ises Rs) → (a : Denots Rs) (vss : Valss Rs) → Are Rs (Ises Rs) a vss → ent 𝓤 (emp 𝓤) (sep 𝓤 (sep 𝓤 (emp 𝓤) (sem 𝓤 H A (owns Rs a vss))) (emp 𝓤))
   asks Rs mk a vss are = qed W [] ∵ use0 W (‵ (owns Rs a vss)) (owns-make 𝓤 H A Rs (Ises Rs) mk a vss are) $ nothing ! $ join ! $ frame ! $ done !
-
-  pub asks-fact : (φ : Type 0) → φ → (Rs : List RattleType) → Makess 𝓤 H A Rs (Ises Rs) → (a : Denots Rs) (vss : Valss Rs) → Are Rs (Ises Rs) a vss → ent 𝓤 (emp 𝓤) (sep 𝓤 (sep 𝓤 (emp 𝓤) (sem 𝓤 H A (owns Rs a vss))) (fact 𝓤 φ))
-  asks-fact φ x Rs mk a vss are = qed W [] ∵ says ! x $ use0 W (‵ (owns Rs a vss)) (owns-make 𝓤 H A Rs (Ises Rs) mk a vss are) $ nothing ! $ done !
 
 module _ {M : Type 1} {𝓤 : URA M} {H : Heap 𝓤} {A : Atoms 𝓤} {K : Type 0} {W : Given 𝓤 H A} {Γ : List (Item 𝓤)} {E : Env 𝓤 H} {C : Calls 𝓤 H} {Λ : Loops 𝓤 H} {q : Post 𝓤 H} where
   pub calls-by : K → FmC 𝓤 H (W .laws) C → {f : Name} {xs : List Operand} {d : Place} {rest : Body} (c : Contract 𝓤) → Triple 𝓤 (C f) c → (x : c .Ghost) → ent 𝓤 (emp 𝓤) (c .pre x)

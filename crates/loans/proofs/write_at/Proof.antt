@@ -1,4 +1,4 @@
--- `lent::write_at` meets its contract: a walk of its MIR, by hand.
+-- `loans::write_at` meets its contract: a walk of its MIR, by hand.
 -- Assumes nothing.
 use mathlib.Core.Path.{_≡_, refl, sym}
 use Prim.Native.Nat.{ℕ, _<_, _^_}
@@ -38,15 +38,15 @@ use denote.Triple.Walked.{says, Stays, stay-slice, stay-none, walkOf, goes-slice
 use denote.Exit.{yes}
 use Rattle.node.specs.declared.Node.{Node}
 use Rattle.events.specs.Events.{wentDown}
-use Rattle.lent.proofs.Walk.{var, fvar, sets, resets, aims, stores, guards, ends, ends-within}
-use Rattle.lent.proofs.Rows.{recordSize, fits-here, nodeVal, node-tells}
-use Rattle.lent.proofs.Slice.{at-list, Had, opening, closing}
+use Rattle.loans.proofs.Walk.{var, fvar, sets, resets, aims, stores, guards, ends, ends-within}
+use Rattle.loans.proofs.Records.{recordSize, fits-here, nodeVal, node-tells}
+use Rattle.loans.proofs.Slice.{at-list, Had, opening, closing}
 use Rattle.node.proofs.Node as T
 use Rattle.node.proofs.Node.Laws as T′
-use Rattle.lent.proofs.write_at.Key.{name as #f}
-use Rattle.lent.proofs.write_at as f
-use Rattle.lent.proofs.write_at.Statement as stated
-use Rattle.lent.proofs.write_at.Code as code
+use Rattle.loans.proofs.write_at.Key.{name as #f}
+use Rattle.loans.proofs.write_at as f
+use Rattle.loans.proofs.write_at.Statement as stated
+use Rattle.loans.proofs.write_at.Code as code
 
 abbrev stayed : Stays (f.ended .signature .params) (f.ended .kept)
 stayed = (stay-slice (0 ∷ []) tt (plain (λ _. T.the-row)), (stay-none (λ _. usize) yes, (stay-none (λ _. T.the-row) yes, tt)))

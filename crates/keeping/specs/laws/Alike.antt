@@ -10,13 +10,13 @@ use Rattle.time.specs.declared.Dts.{Dts}
 use Rattle.time.specs.Fresh.{window, fresh}
 use Rattle.senders.specs.Masks.{room, enough}
 use Rattle.senders.specs.laws.MaskLaws.{same-bits}
 use Rattle.store.specs.declared.Store.{Store}
 use Rattle.store.specs.declared.Earliest.{Earliest}
 use Rattle.store.specs.declared.Earliest.the-variants.{Stamp}
 use Rattle.store.specs.Store.{hasPlace}
 use Rattle.store.specs.Held.{held}
 use Rattle.store.specs.Earliest.{dts, freshStamps, firstOf}
-use Rattle.store.specs.laws.Keeping.{Keeping, Laws, theStore, store-laws, Change, Put, Move, holds, qualifiesIn, earliestIn, after}
+use Rattle.keeping.specs.laws.Keeping.{Keeping, Laws, theStore, store-laws, Change, Put, Move, holds, qualifiesIn, earliestIn, after}
 
 module _ (K L : Keeping) where
   -- two stores agree on clock and on what is held

@@ -4,9 +4,9 @@ use mathlib.Core.Path.{_≡_, sym, ap, ap₂, _∙_}
 use mathlib.Core.Bool.{true}
 use native.Mathlib.Omega.{arith}
 use Rattle.time.specs.declared.Dts.{Dts}
 use Rattle.store.specs.Store.{stamps, places, hasPlace, place, oldest, turn}
 use Rattle.store.specs.laws.Places.{bounds}
-use Rattle.store.specs.laws.Before.{placeBefore, stood, stands}
+use Rattle.keeping.specs.laws.Before.{placeBefore, stood, stands}
 
 -- the one undoes the other, for any oldest place
 module _ (q r o : ℕ) (h : r < stamps) (l : o < stamps) where

@@ -1,4 +1,4 @@
--- `lent::record_at` meets its contract: a walk of its MIR, by hand. Of `node::events::down` it knows only that it meets its contract.
+-- `loans::record_at` meets its contract: a walk of its MIR, by hand. Of `node::events::down` it knows only that it meets its contract.
 -- Assumes nothing.
 use mathlib.Core.Path.{_≡_, refl, sym, _∙_}
 use Prim.Native.Nat.{ℕ, _<_, _^_}
@@ -39,19 +39,19 @@ use denote.Triple.Walked.{says, Stays, stay-slice, stay-none, walkOf, goes-slice
 use denote.Exit.{yes}
 use Rattle.node.specs.declared.Node.{Node}
 use Rattle.events.specs.Events.{wentDown}
-use Rattle.lent.proofs.Walk.{var, fvar, behind, sets, resets, lands, aims, guards, ends, ends-within}
-use Rattle.lent.proofs.Rows.{recordSize, fits-here, nodeVal, node-tells}
-use Rattle.lent.proofs.Slice.{at-list, Had, opening, closing, asks, calls-by}
+use Rattle.loans.proofs.Walk.{var, fvar, behind, sets, resets, lands, aims, guards, ends, ends-within}
+use Rattle.loans.proofs.Records.{recordSize, fits-here, nodeVal, node-tells}
+use Rattle.loans.proofs.Slice.{at-list, Had, opening, closing, asks, calls-by}
 use Rattle.node.proofs.Node as T
 use Rattle.node.proofs.Node.Laws as T′
 use Rattle.events.proofs.down as down
 use Rattle.events.proofs.down.Symbol as down-def
 use Rattle.events.proofs.down.Symbol.{name as #down}
 use Rattle.events.proofs.down.Met as down-thm
-use Rattle.lent.proofs.record_at.Key.{name as #f}
-use Rattle.lent.proofs.record_at as f
-use Rattle.lent.proofs.record_at.Statement as stated
-use Rattle.lent.proofs.record_at.Code as code
+use Rattle.loans.proofs.record_at.Key.{name as #f}
+use Rattle.loans.proofs.record_at as f
+use Rattle.loans.proofs.record_at.Statement as stated
+use Rattle.loans.proofs.record_at.Code as code
 
 abbrev stayed : Stays (f.ended .signature .params) (f.ended .kept)
 stayed = (stay-slice (0 ∷ []) tt (plain (λ _. T.the-row)), (stay-none (λ _. usize) yes, tt))

@@ -7,10 +7,10 @@ use lib.Dec.{leb, ltb}
 use Rattle.time.specs.declared.Dts.{Dts}
 use Rattle.time.specs.Fresh.{window}
 use Rattle.tables.specs.Tables.{table}
 use Rattle.store.specs.declared.Store.{Store}
 use Rattle.store.specs.Store.{stamps, places, hasPlace, setAt, sendersOf, putAt, oldest, turn, storeWithin}
 use Rattle.store.specs.Earliest.{earliest}
-use Rattle.store.specs.laws.Keeping.{Keeping, inPlaces, earliestIn}
+use Rattle.keeping.specs.laws.Keeping.{Keeping, inPlaces, earliestIn}
 
 -- five places for each action, the oldest fresh stamp first
 abbrev pub placeBefore : Dts → ℕ → Dts → ℕ

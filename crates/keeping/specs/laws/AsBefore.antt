@@ -12,14 +12,14 @@ use Rattle.refusals.specs.laws.Bools.{both-ways}
 use Rattle.time.specs.declared.Dts.{Dts}
 use Rattle.senders.specs.Masks.{joined, within}
 use Rattle.tables.specs.Tables.{table, getD-table, is-table, length-table}
 use Rattle.store.specs.declared.Store.{Store}
 use Rattle.store.specs.Store.{stamps, places, hasPlace, place, setAt, sendersOf, empty, putAt, put, turn, leftAt, movedTo, storeWithin}
 use Rattle.store.specs.laws.Places.{place-lt}
 use Rattle.store.specs.laws.WithinLaws.{each-within, within-each}
-use Rattle.store.specs.laws.Keeping.{theStore, Change, Put, Move, after, earliest-is}
-use Rattle.store.specs.laws.Alike.{earliest-by-senders}
-use Rattle.store.specs.laws.Before.{placeBefore, sendersBefore, putBefore, movedFrom, movedBefore, before, stood, stands, asNow, asThen, AsBefore}
-use Rattle.store.specs.laws.Turning.{back, forth, turn-lt, last, passes, stays, stood-lt, stood-at}
+use Rattle.keeping.specs.laws.Keeping.{theStore, Change, Put, Move, after, earliest-is}
+use Rattle.keeping.specs.laws.Alike.{earliest-by-senders}
+use Rattle.keeping.specs.laws.Before.{placeBefore, sendersBefore, putBefore, movedFrom, movedBefore, before, stood, stands, asNow, asThen, AsBefore}
+use Rattle.keeping.specs.laws.Turning.{back, forth, turn-lt, last, passes, stays, stood-lt, stood-at}
 
 set-now : (s : Store) (k : ℕ) → k < places → setAt (asNow s) k ≡ setAt s (stood (s .clock) k)
 set-now s k l = getD-table places (λ i. setAt s (stood (s .clock) i)) k 0 l

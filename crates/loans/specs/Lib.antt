@@ -1,0 +1,3 @@
+-- Records of a lent table that are made.
+pub mod Loans
+pub mod laws
