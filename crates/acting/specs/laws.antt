@@ -6,3 +6,4 @@ pub mod Running
 pub mod Moving
 pub mod Stores
 pub mod Reports
+pub mod Soundness

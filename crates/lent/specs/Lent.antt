@@ -35,7 +35,7 @@ afterDone (AtNode i t event) records node = set records i node
 afterDone (Life i turn) records node = set records i node
 afterDone (AtBreaker t act) records node = records
 
--- "a refused step changes none"
+-- a refused step changes none: "Every refusal sends nothing and leaves site, table and clocks unchanged."
 abbrev pub tableAfterAnswer : Answer → Step → List Node → Node → List Node
 tableAfterAnswer (Done sent) step records node = afterDone step records node
 tableAfterAnswer (Refused number) step records node = records

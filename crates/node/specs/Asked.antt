@@ -53,6 +53,12 @@ knownB Down = No
 knownB (Starting l) = l .b
 knownB (Running rec) = Yes (rec .b)
 
+-- the stamp being resent, if one is
+abbrev pub resending : Phase → Resend
+resending Down = Off
+resending (Starting l) = Off
+resending (Running rec) = rec .resend
+
 -- "a number is new when none is known since start-up, or when number minus last, wrapping at 32 bits, is 1 to 2,147,483,647"
 abbrev pub newAfter : ℕ → Last → Bool
 newAfter number (Number last) = newer number last

@@ -3,4 +3,5 @@
 pub mod Replay
 pub mod Promised
 pub mod Example
+pub mod Settled
 pub mod laws

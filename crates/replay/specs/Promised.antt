@@ -16,9 +16,8 @@ use Rattle.run.specs.Turns.{firstRun}
 use Rattle.run.specs.Blocks.{ranOf, Block}
 use Rattle.sequences.specs.History.{Entry, lastStart}
 use Rattle.sequences.specs.Moments.{Reached, from, Accepts}
-use Rattle.sequences.specs.Demand.{AtMostF, StatusAsTold, SharedByACorrectNode, StampsRise, RunsAsTold, HeldExactly, NoneLeft, MovedBySending}
+use Rattle.sequences.specs.Demand.{AtMostF, StatusAsTold, SharedByACorrectNode, StampsRise, RunsAsTold, HeldExactly, NoneLeft}
 use Rattle.sequences.specs.laws.Started.{started-before}
-use Rattle.sequences.specs.laws.Sending.{moved-by-sending}
 use Rattle.sequences.specs.laws.Proved.{at-most-f, status-as-told, shared-by-a-correct-node, stamps-rise, runs-as-told, held-exactly, none-left}
 use Rattle.replay.specs.Replay.{momentOf, Prints, told, prints-reached, block-prints}
 
@@ -50,7 +49,6 @@ pub record Promised (h : List Entry) (run : Run) : Type 0 where
   pub running : (b : Beginning) → lastStart h ≡ some b → RunsAsTold h (momentOf run) b
   pub held : (b : Beginning) → lastStart h ≡ some b → HeldExactly h (momentOf run) b
   pub none-waits : (b : Beginning) → lastStart h ≡ some b → NoneLeft h (momentOf run) b
-  pub sent : (b : Beginning) → lastStart h ≡ some b → MovedBySending h (momentOf run) b
 
 pub promised : (h : List Entry) (run : Run) → Replayed h run → Promised h run
 unfolding firstRun
@@ -64,5 +62,4 @@ promised h run r =
       running = runs-as-told (momentOf firstRun) h (momentOf run) r;
       held = held-exactly (momentOf firstRun) h (momentOf run) r;
       none-waits = none-left (momentOf firstRun) h (momentOf run) r;
-      sent = moved-by-sending (momentOf firstRun) h (momentOf run) r;
     }

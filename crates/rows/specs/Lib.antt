@@ -3,4 +3,5 @@ pub mod Exactly
 pub mod Outsiders
 pub mod Conditions
 pub mod Rows
+pub mod Discretising
 pub mod laws

@@ -9,24 +9,28 @@ use mathlib.Core.List.{List, [], _∷_}
 use mathlib.Core.Logic.{_⊎_}
 use mathlib.Core.Option.{some}
 use Rattle.time.specs.declared.Dts.{Dts}
+use Rattle.time.specs.Fresh.{fresh}
 use Rattle.senders.specs.Sets.{countBelow}
 use Rattle.senders.specs.Masks.{size}
 use Rattle.pairs.specs.declared.Pair.{Pair}
-use Rattle.pairs.specs.declared.Known.the-variants.{Yes}
+use Rattle.pairs.specs.declared.Known.{Known}
+use Rattle.pairs.specs.declared.Known.the-variants.{Yes, No}
 use Rattle.pairs.specs.Pair.{listed, has}
 use Rattle.node.specs.declared.Record.{Record}
+use Rattle.node.specs.declared.Resend.{Resend}
+use Rattle.node.specs.declared.Resend.the-variants.{Armed, Off}
 use Rattle.node.specs.declared.Phase.the-variants.{Running}
 use Rattle.node.specs.State.{attempts}
 use Rattle.node.specs.Asked.{isRunning}
 use Rattle.steps.specs.declared.Beginning.{Beginning}
+use Rattle.steps.specs.declared.Event.{Event}
 use Rattle.steps.specs.declared.Step.{Step}
-use Rattle.steps.specs.Named.{named, Of}
-use Rattle.breaker.specs.Breaker.{changeAt}
-use Rattle.site.specs.declared.Sent.{Sent}
-use Rattle.site.specs.declared.Answer.the-variants.{Done}
+use Rattle.steps.specs.declared.Step.the-variants.{Start, Tick, AtNode, Life, AtBreaker}
+use Rattle.steps.specs.Named.{resendTimeout, saidBy, named, Of}
 use Rattle.site.specs.Site.{nodes}
 use Rattle.sequences.specs.History.{Entry, Accepted, Change, lastStart, accepted, isCompromised, breakerStatus, changesIn, isAt, atNode, lastReport, clock, runs, deliveries, freshAtClock}
-use Rattle.sequences.specs.Moments.{Moment, Reached, answerTo, afterStep, nodeAt, holds}
+use Rattle.sequences.specs.Told.{toldTo, rThen, bThen, heldThen}
+use Rattle.sequences.specs.Moments.{Moment, Reached, nodeAt, holds}
 
 -- a correct node, for what the last Start gave and the steps accepted since
 abbrev pub Correct : Beginning → List Accepted → ℕ → Type 0
@@ -41,6 +45,17 @@ pub data Earlier (P : Accepted → List Accepted → Type 0) : List Accepted →
 abbrev pub Each : {A : Type 0} → (A → Type 0) → List A → Type 0
 Each P [] = Unit {0}
 Each P (a ∷ rest) = P a × Each P rest
+
+-- each accepted step, with those before it, is as P says
+abbrev pub EachStep : (Accepted → List Accepted → Type 0) → List Accepted → Type 0
+EachStep P [] = Unit {0}
+EachStep P (a ∷ before) = P a before × EachStep P before
+
+-- a command with this action and stamp is being resent: b's status, and the stamp being resent
+abbrev pub IsResent : Resend → Known → ℕ → Dts → Type 0
+IsResent (Armed U) (Yes p) A T = (A ≡ p .status) × (T .0 ≡ U .0)
+IsResent (Armed U) No A T = ⊥
+IsResent Off k A T = ⊥
 
 -- In this step node i shared (A, T), "whose own clock then read T or T−1 and whose relay's last accepted report was that action".
 pub record Shared (i A : ℕ) (T : Dts) (a : Accepted) (before : List Accepted) : Type 0 where
@@ -61,6 +76,38 @@ BothStamps P c = P (c .stamp) × ((p : Pair) → c .acked ≡ Yes p → P (p .st
 abbrev pub Rising : List Change → Type 0
 Rising [] = Unit {0}
 Rising (c ∷ before) = Each (BothStamps λ U. U .0 < c .stamp .0) before × Rising before
+
+-- ---- 4: for what the last Start gave, an accepted step a, the accepted steps before it, and the event at node j at its clock t that it is
+
+module _ (b : Beginning) (a : Accepted) (before : List Accepted) (j : ℕ) (t : Dts) (event : Event) where
+  -- after the event the node attempts A, with p for the breaker's pair
+  abbrev pub Attempts : ℕ → Pair → Type 0
+  Attempts A p = (r : Pair) × (rThen b before j t event ≡ Yes r) × (bThen b before j event ≡ Yes p) × (attempts r p ≡ true) × (A ≡ r .status)
+
+  -- T is "a fresh stamp above its breaker stamp", and "f+1 senders are held" for A
+  abbrev pub HeldEnough : ℕ → Pair → Dts → Type 0
+  HeldEnough A p T = (fresh T t ≡ true) × (p .stamp .0 < T .0) × (b .f + 1 ≤ countBelow (nodes (b .f) (b .k)) (heldThen before a j t A T))
+
+  -- the earliest of these
+  abbrev pub IsEarliest : ℕ → Pair → Dts → Type 0
+  IsEarliest A p T = HeldEnough A p T × ((U : Dts) → HeldEnough A p U → T .0 ≤ U .0)
+
+  pub record SendsAtOnceHere : Type 0 where
+    -- "it sends the command in that same step"
+    pub at-once : (A : ℕ) (p : Pair) (T : Dts) → Attempts A p → HeldEnough A p T → (U : Dts) × IsEarliest A p U × (has (listed (a .sent .commands)) A U ≡ true)
+    -- and a command is sent in no other case but an armed resend
+    pub no-other : (A : ℕ) (T : Dts) → has (listed (a .sent .commands)) A T ≡ true
+        → (IsResent (toldTo b j before .resend) (toldTo b j before .b) A T × (saidBy event .kind ≡ resendTimeout)) ⊎ ((p : Pair) × Attempts A p × IsEarliest A p T)
+
+-- an event at a node sends so, and no other step sends a command
+abbrev pub SendsAtOnceBy : Beginning → Accepted → List Accepted → Step → Type 0
+SendsAtOnceBy b a before (Start b′) = listed (a .sent .commands) ≡ []
+SendsAtOnceBy b a before Tick = listed (a .sent .commands) ≡ []
+SendsAtOnceBy b a before (AtNode j t event) = SendsAtOnceHere b a before j t event
+SendsAtOnceBy b a before (Life i turn) = listed (a .sent .commands) ≡ []
+SendsAtOnceBy b a before (AtBreaker t act) = listed (a .sent .commands) ≡ []
+
+-- ---- the four parts
 
 -- for a history h, the moment m to which it leads, and what its last accepted Start gave
 module _ (h : List Entry) (m : Moment) (b : Beginning) where
@@ -100,22 +147,15 @@ module _ (h : List Entry) (m : Moment) (b : Beginning) where
       (j : ℕ) → Correct b (accepted h) j → runs (at j) ≡ true
       → (i A : ℕ) (T : Dts) → holds m j A T i ≡ (has (deliveries i j (at j)) A T && freshAtClock T (clock (at j)))
 
-  -- 4. "where f+1 senders are held at a fresh stamp above its breaker stamp, for the action it attempts, it sends the command in that same step":
-  -- no running correct node is left in Attempt with such a stamp.
+  -- 4. "where f+1 senders are held at a fresh stamp above its breaker stamp, for the action it attempts, it sends the command in that same step"
+  abbrev pub SendsAtOnce : Type 0
+  SendsAtOnce = EachStep (λ a before. SendsAtOnceBy b a before (a .step)) (accepted h)
+
+  -- so that after every step no running correct node is left in Attempt with such a stamp
   abbrev pub NoneLeft : Type 0
   NoneLeft =
       (j : ℕ) → Correct b (accepted h) j → (rec : Record) → nodeAt m j .phase ≡ Running rec → attempts (rec .r) (rec .b) ≡ true
       → (T : Dts) → rec .b .stamp .0 < T .0 → countBelow (nodes (b .f) (b .k)) (holds m j (rec .r .status) T) ≤ b .f
-
-  -- And what it takes for the breaker's moves, in a step at it while it runs, only by the change that an ack delivers or by a command that it sends in
-  -- that step.
-  abbrev pub MovedBySending : Type 0
-  MovedBySending =
-      (j : ℕ) → Correct b (accepted h) j → (step : Step) (sent : Sent) → named step .actor ≡ some j → answerTo m step ≡ Done sent
-      → (rec new : Record) → nodeAt m j .phase ≡ Running rec → nodeAt (afterStep m step) j .phase ≡ Running new
-      → (new .b ≡ rec .b)
-      ⊎ (Of (named step .said .back) λ back. changeAt (m .site .breaker) back ≡ Yes (new .b))
-      ⊎ (has (listed (sent .commands)) (new .b .status) (new .b .stamp) ≡ true)
 
 -- The demand, for every sequence that has an accepted Start
 abbrev pub Always : (List Entry → Moment → Beginning → Type 0) → Type 0

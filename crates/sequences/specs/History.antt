@@ -82,9 +82,10 @@ abbrev pub breakerStatus : ℕ → List Accepted → ℕ
 breakerStatus first [] = first
 breakerStatus first (a ∷ before) = statusBy (a .step) (breakerStatus first before)
 
--- an accepted change: the step's number, its action, its stamp T, the ack that was sent, and the accepted steps before it
+-- an accepted change: the step's number, its clock t, its action, its stamp T, the ack that was sent, and the accepted steps before it
 pub record Change : Type 0 where
   pub number : ℕ
+  pub clock : Dts
   pub action : ℕ
   pub stamp : Dts
   pub acked : Known
@@ -100,7 +101,7 @@ changeBy Tick a had before = []
 changeBy (AtNode i t event) a had before = []
 changeBy (Life i turn) a had before = []
 changeBy (AtBreaker t act) a had before =
-    unlessHad (eqb (act .status) had) (record { number = a .number; action = act .status; stamp = act .stamp; acked = a .sent .ack; before = before })
+    unlessHad (eqb (act .status) had) (record { number = a .number; clock = t; action = act .status; stamp = act .stamp; acked = a .sent .ack; before = before })
 
 -- the accepted changes
 abbrev pub changesIn : ℕ → List Accepted → List Change

@@ -1,4 +1,4 @@
--- A site with its table, and every sequence of steps, "each given the site and table that the last one left".
+-- A site with its table, and every sequence of steps, "each given the site and table the last one left".
 use Prim.Native.Nat.{ℕ}
 use mathlib.Core.Path.{_≡_}
 use mathlib.Core.Bool.{Bool, true}

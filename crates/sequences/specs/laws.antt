@@ -1,12 +1,20 @@
 -- What is shown of the definitions. Nothing here has to be believed.
+pub mod Lengths
 pub mod OfEvents
 pub mod Fitting
 pub mod Keeps
 pub mod Reaching
 pub mod Changing
-pub mod Sending
+pub mod OfBreaker
+pub mod NodeTold
+pub mod SiteTold
+pub mod StateTold
+pub mod AsTold
+pub mod SentTold
+pub mod AtOnce
 pub mod Reporting
 pub mod Relay
 pub mod Repeating
 pub mod Started
 pub mod Proved
+pub mod Soundness

@@ -1,2 +1,3 @@
--- Lists that a rule makes.
+-- Lists that a rule makes (Tables), and a test of every place (Every).
 pub mod Tables
+pub mod laws

@@ -1,7 +1,7 @@
 -- What a node's store holds after an event.
 use Prim.Native.Nat.{ℕ, _≤_, _<_}
 use mathlib.Core.Path.{_≡_, refl, sym, ap, subst, _∙_}
-use mathlib.Core.Bool.{Bool, true, false, _&&_, _||_, cond, false≢true, and-eq-true-iff}
+use mathlib.Core.Bool.{Bool, true, false, not, _&&_, _||_, cond, false≢true, and-eq-true-iff}
 use mathlib.Core.Logic.{_⊎_, inl, inr}
 use mathlib.Core.List.{List, [], _∷_, _++_}
 use mathlib.Core.Option.{Option, none, some}
@@ -21,10 +21,13 @@ use Rattle.pairs.specs.Pair.{listed, has}
 use Rattle.pairs.specs.Shares.{sharesAt, deliveredFrom}
 use Rattle.node.specs.declared.Learned.{Learned}
 use Rattle.node.specs.declared.Record.{Record}
-use Rattle.node.specs.declared.Phase.the-variants.{Starting, Running}
+use Rattle.node.specs.declared.Phase.{Phase}
+use Rattle.node.specs.declared.Phase.the-variants.{Down, Starting, Running}
+use Rattle.node.specs.declared.Node.{Node}
 use Rattle.node.specs.declared.Acted.{Acted}
-use Rattle.node.specs.Asked.{phaseRunning, knownR}
+use Rattle.node.specs.Asked.{phaseDown, phaseRunning, knownR}
 use Rattle.combining.specs.Combining.{putAll, finished}
+use Rattle.events.specs.Events.{storeAt}
 use Rattle.combining.specs.laws.CombiningLaws.{ended-runs}
 use Rattle.combining.specs.laws.OwnLaws.{has-append, has-cond, Near, near-fresh, held-all, clock-all}
 use Rattle.breaker.specs.declared.Breaker.{Breaker}
@@ -64,7 +67,7 @@ module _ (s : Store) where
   clock-each sender B [] = refl
   clock-each sender B (U ∷ more) = clock-put (putEach s sender B more) sender B U ∙ clock-each sender B more
 
-  clock-from : (sender status : Option ℕ) (stamps : List Dts) → putFrom s sender status stamps .clock ≡ s .clock
+  pub clock-from : (sender status : Option ℕ) (stamps : List Dts) → putFrom s sender status stamps .clock ≡ s .clock
   clock-from (some sender) (some B) stamps = clock-each sender B stamps
   clock-from (some sender) none stamps = refl
   clock-from none status stamps = refl
@@ -199,3 +202,28 @@ unfolding acted finished putAll
 began-empty breaker learned s i f t event runs =
     ap (putAll (stored (Starting learned) s t event) i) (starting-shares breaker learned t event)
     ∙ starting-stored breaker learned s t event (ended-runs _ f (changedBy breaker (Starting learned) t event .phase) runs)
+
+-- ---- any node that is not down: its store is at the clock of the event, and that of one that starts up stays empty
+
+module _ (breaker : Breaker) (node : Node) (i f : ℕ) (t : Dts) (event : Event) where
+  at-clock : (p : Phase) → not (phaseDown p) ≡ true → node .store .clock .0 ≤ t .0 → storeAt p (node .store) t .clock ≡ t
+  unfolding empty
+  at-clock Down up l = absurd (false≢true up)
+  at-clock (Starting learned) up l = refl
+  at-clock (Running rec) up l = clock-at (node .store) t l
+
+  pub clock-of : not (phaseDown (node .phase)) ≡ true → node .store .clock .0 ≤ t .0 → acted breaker node i f t event .node .store .clock ≡ t
+  unfolding acted finished
+  clock-of up l =
+      clock-all (stored (node .phase) (node .store) t event) i (changedBy breaker (node .phase) t event .shares)
+      ∙ ap (λ (x : Store). x .clock) (left-by breaker (node .phase) t event .of-store (node .store))
+      ∙ clock-from (storeAt (node .phase) (node .store) t) (saidBy event .sender) (saidBy event .status) (saidBy event .stamps)
+      ∙ at-clock (node .phase) up l
+
+pub still-empty : (breaker : Breaker) (learned : Learned) (s : Store) (i f : ℕ) (t : Dts) (event : Event) → saidBy event .sender ≡ none
+    → acted breaker (record { phase = Starting learned; store = s }) i f t event .node .store ≡ empty t
+unfolding acted finished putAll
+still-empty breaker learned s i f t event unsent =
+    ap (putAll (stored (Starting learned) s t event) i) (starting-shares breaker learned t event)
+    ∙ left-by breaker (Starting learned) t event .of-store s
+    ∙ ap (λ (o : Option ℕ). putFrom (empty t) o (saidBy event .status) (saidBy event .stamps)) unsent

@@ -4,18 +4,20 @@ use mathlib.Core.Path.{_≡_, refl}
 use mathlib.Core.Bool.{Bool, true, false, not, _&&_, _||_}
 use native.Mathlib.Omega.{arith}
 use lib.Dec.{eqb, leb}
-use borrow.Author.Tests.{ltb-true, leb-true, eqb-true, not-true}
+use borrow.Author.Tests.{ltb-true, leb-true, eqb-true, eqb-false, not-true}
 use Rattle.refusals.specs.Tests.{refusal, numbered, testAt}
 use Rattle.refusals.specs.laws.Tests.{each-passed}
 use Rattle.refusals.specs.laws.Bools.{left, right}
 use Rattle.time.specs.declared.Dts.{Dts}
+use Rattle.time.specs.Fresh.{fresh}
 use Rattle.time.specs.laws.Fresh.{latestClock}
 use Rattle.senders.specs.Masks.{room, isIn, size, within}
 use Rattle.steps.specs.declared.Beginning.{Beginning}
 use Rattle.steps.specs.declared.Event.{Event}
 use Rattle.steps.specs.declared.Turn.{Turn}
+use Rattle.steps.specs.declared.Act.{Act}
 use Rattle.steps.specs.declared.Step.{Step}
-use Rattle.steps.specs.declared.Step.the-variants.{Start, AtNode, Life}
+use Rattle.steps.specs.declared.Step.the-variants.{Start, Tick, AtNode, Life, AtBreaker}
 use Rattle.steps.specs.Named.{named, saidBy, saidByTurn}
 use Rattle.node.specs.declared.Node.{Node}
 use Rattle.node.specs.Asked.{phaseDown}
@@ -46,21 +48,46 @@ pub record Begins (lent : ℕ) (b : Beginning) : Type 0 where
   pub few : size (b .compromised) ≤ b .f
   pub lends : nodes (b .f) (b .k) ≤ lent
 
-pub begins : (site : Site) (lent : ℕ) (node : Node) (b : Beginning) → Passes site lent node (Start b) → Begins lent b
-begins site lent node b e =
-    let six = leb (b .f) mostF && leb (b .k) mostK && isStatus (b .status) && (leb firstG (b .g .0) && leb (b .g .0) lastStartG) && within (b .compromised) (nodes (b .f) (b .k)) in
-    let all = row-passed site lent node (Start b) 1 e in
-    let not-long = left (six && leb (size (b .compromised)) (b .f)) (leb (nodes (b .f) (b .k)) lent) all in
-    let sets = left six (leb (size (b .compromised)) (b .f)) not-long in
-    let clock = left _ (within (b .compromised) (nodes (b .f) (b .k))) sets in
-    let status = left (leb (b .f) mostF && leb (b .k) mostK && isStatus (b .status)) (leb firstG (b .g .0) && leb (b .g .0) lastStartG) clock in
-    let numbers = left (leb (b .f) mostF && leb (b .k) mostK) (isStatus (b .status)) status in
-    record {
-      most-f = leb-true _ _ (left (leb (b .f) mostF) (leb (b .k) mostK) numbers);
-      most-k = leb-true _ _ (right (leb (b .f) mostF) (leb (b .k) mostK) numbers);
-      few = leb-true _ _ (right six (leb (size (b .compromised)) (b .f)) not-long);
-      lends = leb-true _ _ (right (six && leb (size (b .compromised)) (b .f)) (leb (nodes (b .f) (b .k)) lent) all);
-    }
+-- and the rest of that row
+pub record BeginsWithin (b : Beginning) : Type 0 where
+  pub is-status : b .status ≤ 1
+  pub first-g : firstG ≤ b .g .0
+  pub last-g : b .g .0 ≤ lastStartG
+  pub inside : within (b .compromised) (nodes (b .f) (b .k)) ≡ true
+
+seven : (a b c d e f g : Bool) → (a && b && c && d && e && f && g) ≡ true
+    → (a ≡ true) × (b ≡ true) × (c ≡ true) × (d ≡ true) × (e ≡ true) × (f ≡ true) × (g ≡ true)
+seven a b c d e f g all =
+    let six = left (a && b && c && d && e && f) g all in
+    let five = left (a && b && c && d && e) f six in
+    let four = left (a && b && c && d) e five in
+    let three = left (a && b && c) d four in
+    let two = left (a && b) c three in
+    (left a b two, right a b two, right (a && b) c three, right (a && b && c) d four, right (a && b && c && d) e five, right (a && b && c && d && e) f six, right (a && b && c && d && e && f) g all)
+
+module _ (site : Site) (lent : ℕ) (node : Node) (b : Beginning) (e : Passes site lent node (Start b)) where
+  row-1 : (leb (b .f) mostF ≡ true)
+      × (leb (b .k) mostK ≡ true)
+      × (isStatus (b .status) ≡ true)
+      × ((leb firstG (b .g .0) && leb (b .g .0) lastStartG) ≡ true)
+      × (within (b .compromised) (nodes (b .f) (b .k)) ≡ true)
+      × (leb (size (b .compromised)) (b .f) ≡ true)
+      × (leb (nodes (b .f) (b .k)) lent ≡ true)
+  row-1 =
+      seven (leb (b .f) mostF) (leb (b .k) mostK) (isStatus (b .status)) (leb firstG (b .g .0) && leb (b .g .0) lastStartG)
+      (within (b .compromised) (nodes (b .f) (b .k))) (leb (size (b .compromised)) (b .f)) (leb (nodes (b .f) (b .k)) lent) (row-passed site lent node (Start b) 1 e)
+
+  pub begins : Begins lent b
+  begins = record { most-f = leb-true _ _ (row-1 .0); most-k = leb-true _ _ (row-1 .1); few = leb-true _ _ (row-1 .5); lends = leb-true _ _ (row-1 .6) }
+
+  pub begins-within : BeginsWithin b
+  begins-within =
+      record {
+        is-status = leb-true _ _ (row-1 .2);
+        first-g = leb-true _ _ (left (leb firstG (b .g .0)) _ (row-1 .3));
+        last-g = leb-true _ _ (right (leb firstG (b .g .0)) _ (row-1 .3));
+        inside = row-1 .4;
+      }
 
 -- a step at node i: rows 16, 2 and 3
 pub record Placed (site : Site) (lent i : ℕ) : Type 0 where
@@ -113,3 +140,25 @@ pub turns : (site : Site) (lent : ℕ) (node : Node) (i : ℕ) (turn : Turn) →
 turns site lent node i turn e =
     placed site lent node i (areInRange site (saidByTurn turn)) (row-passed site lent node (Life i turn) 16 e) (row-passed site lent node (Life i turn) 2 e)
     (row-passed site lent node (Life i turn) 3 e)
+
+-- a Tick: rows 16 and 15
+pub ticks : (site : Site) (lent : ℕ) (node : Node) → Passes site lent node Tick → g site .0 < lastG
+ticks site lent node e =
+    let last = sound site lent (left _ true (row-passed site lent node Tick 16 e)) .last-g in
+    let not-last = eqb-false (g site .0) lastG (not-true _ (row-passed site lent node Tick 15 e)) in
+    omega (arith, last, not-last)
+
+-- a step at the breaker: rows 16, 2, 5 and 7
+pub record AtTheBreaker (t : Dts) (act : Act) : Type 0 where
+  pub is-status : act .status ≤ 1
+  pub not-late : t .0 ≤ latestClock
+  pub is-fresh : fresh (act .stamp) t ≡ true
+
+pub at-breaker : (site : Site) (lent : ℕ) (node : Node) (t : Dts) (act : Act) → Passes site lent node (AtBreaker t act) → AtTheBreaker t act
+at-breaker site lent node t act e =
+    record {
+      is-status = leb-true _ _ (left (isStatus (act .status)) true (row-passed site lent node (AtBreaker t act) 2 e));
+      not-late =
+          timely site t (sound site lent (left _ true (row-passed site lent node (AtBreaker t act) 16 e)) .last-g) (row-passed site lent node (AtBreaker t act) 5 e);
+      is-fresh = left _ true (row-passed site lent node (AtBreaker t act) 7 e);
+    }

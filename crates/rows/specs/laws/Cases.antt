@@ -1,11 +1,11 @@
 -- What each row's test tells, and so which number a step is answered with.
 use Prim.Native.Nat.{ℕ, _+_, _-_, _≤_, _<_}
-use mathlib.Core.Path.{_≡_, refl}
-use mathlib.Core.Bool.{_&&_}
+use mathlib.Core.Path.{_≡_, refl, sym, _∙_}
+use mathlib.Core.Bool.{true, _&&_, true≢false}
 use mathlib.Core.Logic.{_↔_, _⊎_}
 use native.Mathlib.Omega.{arith}
 use lib.Dec.{leb}
-use Rattle.refusals.specs.Tests.{refusal}
+use Rattle.refusals.specs.Tests.{refusal, testAt}
 use Rattle.refusals.specs.laws.Bools.{and-assoc}
 use Rattle.time.specs.declared.Dts.{Dts}
 use Rattle.time.specs.Fresh.{fresh}
@@ -23,7 +23,7 @@ use Rattle.site.specs.declared.Site.{Site}
 use Rattle.site.specs.Site.{nodes, n, g, mostF, mostK, firstG, lastStartG, lastG, setsSound, siteSound, actorSound}
 use Rattle.refusing.specs.Tests.{counted, phaseTakes, lastClock, canBegin, tableFor, testsOf}
 use Rattle.rows.specs.Exactly.{Condition, NoneBefore, None, Tells, Tell, no-rows, also}
-use Rattle.rows.specs.laws.Exactly.{exactly, exactly-done, at-most}
+use Rattle.rows.specs.laws.Exactly.{exactly, exactly-done, at-most, met}
 use Rattle.rows.specs.Outsiders.{Outsider}
 use Rattle.rows.specs.laws.Outsiders.{outsider}
 use Rattle.rows.specs.laws.Answered.{answeredWith, answered-is}
@@ -133,6 +133,10 @@ module _ (site : Site) (lent : ℕ) (node : Node) (step : Step) where
   pub told : (k : ℕ) → 0 < k
       → (answeredWith site lent node step ≡ k) ↔ (NoneBefore k (refusalTable site lent node step) × Condition k (refusalTable site lent node step))
   told k pos = rw number (exactly rows-tell refl k pos)
+
+  -- A step that passes the test of row k is not answered with k.
+  pub not-given : (k : ℕ) → 0 < k → testAt k (tableFor site lent node (named step)) ≡ true → answeredWith site lent node step ≡ k → ⊥
+  not-given k pos passes is = true≢false (sym passes ∙ met rows-tell k (told k pos .0 is .1))
 
   -- It is answered with 0 exactly when no row has its condition met,
   pub told-done : (answeredWith site lent node step ≡ 0) ↔ None (refusalTable site lent node step)

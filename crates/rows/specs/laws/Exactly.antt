@@ -7,7 +7,7 @@ use mathlib.Core.List.{List}
 use native.Mathlib.Omega.{arith}
 use lib.Dec.{eqb, leb, ltb}
 use borrow.Author.Tests.{eqb-true, eqb-false, leb-true, ltb-true, not-true}
-use Rattle.refusals.specs.Tests.{Test, refusal}
+use Rattle.refusals.specs.Tests.{Test, refusal, testAt}
 use Rattle.refusals.specs.laws.Bools.{left, right}
 use Rattle.rows.specs.Exactly.{Row, Condition, NoneBefore, None, Tells, Tell, no-rows, also, hasRow, apart, upTo}
 
@@ -69,3 +69,12 @@ at-most (also j {test} {C} {ts} {rows} tells rest) m a = go test (at-most rest m
     go : (t : Bool) → refusal ts ≤ m → cond t (refusal ts) j ≤ m
     go true ih = ih
     go false ih = leb-true j m (left (leb j m) _ a)
+
+-- Where the condition of row k is met, the test with that number fails.
+pub met : {ts : List Test} {rows : List Row} → Tell ts rows → (k : ℕ) → Condition k rows → testAt k ts ≡ false
+met no-rows k c = absurd c
+met (also j {test} {C} {ts} {rows} tells rest) k c = go (eqb j k) c (met rest k)
+  where
+    go : (same : Bool) → cond same C (Condition k rows) → (Condition k rows → testAt k ts ≡ false) → cond same test (testAt k ts) ≡ false
+    go true c later = tells .1 c
+    go false c later = later c

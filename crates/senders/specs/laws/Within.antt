@@ -79,3 +79,7 @@ below-within mask n h = sym (shifted-out mask n) ∙ eq-eqb _ _ (same-bits (mask
 
     above : (i : ℕ) → isIn (mask / 2 ^ n) i ≡ false
     above i = ap (λ (x : ℕ). eqb (x % 2) 1) (shr-shr mask n i) ∙ outside i (isIn mask (n + i)) refl
+
+-- The empty set is within every n.
+pub none-within : (n : ℕ) → within 0 n ≡ true
+none-within n = below-within 0 n (λ i e. absurd (false≢true (sym (in-none i) ∙ e)))

@@ -106,7 +106,7 @@ module _ (b : Beginning) (steps : List Accepted) (site : Site) (before : Changin
         a = commandWith (pair A (larger T t))
 
         c : Change
-        c = record { number = number; action = A; stamp = T; acked = Yes (pair A (larger T t)); before = steps }
+        c = record { number = number; clock = t; action = A; stamp = T; acked = Yes (pair A (larger T t)); before = steps }
 
         below : site .breaker .pair .stamp .0 < T .0 → (d : Change) → NotAbove (site .breaker .pair .stamp) d → BothStamps (λ U. U .0 < T .0) d
         below higher d old = (let x = old .0 in omega (arith, higher, x), λ p is. let x = old .1 p is in omega (arith, higher, x))
@@ -121,7 +121,7 @@ module _ (b : Beginning) (steps : List Accepted) (site : Site) (before : Changin
         let is : A ≡ site .breaker .pair .status = eqb-true _ _ e in
         unmoved (commandWith sent) next same (is ∙ before .status)
         (ap
-        (λ (had : Bool). unlessHad had (record { number = number; action = A; stamp = T; acked = Yes sent; before = steps }) ++ changesIn (b .status) steps)
+        (λ (had : Bool). unlessHad had (record { number = number; clock = t; action = A; stamp = T; acked = Yes sent; before = steps }) ++ changesIn (b .status) steps)
         (ap (λ (had : ℕ). eqb A had) (sym (before .status)) ∙ e))
 
 -- ---- one step

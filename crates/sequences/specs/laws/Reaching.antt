@@ -84,7 +84,7 @@ fits-up f j own e =
 
 -- ---- Start
 
-front : {A : Type 0} (n : ℕ) (rule : ℕ → A) (l : List A) (j : ℕ) (d : A) → j < n → getD (table n rule ++ l) j d ≡ rule j
+pub front : {A : Type 0} (n : ℕ) (rule : ℕ → A) (l : List A) (j : ℕ) (d : A) → j < n → getD (table n rule ++ l) j d ≡ rule j
 unfolding table
 front zero rule l j d h = absurd (not-suc-le-zero h)
 front (suc n) rule l zero d h = refl
@@ -112,7 +112,7 @@ starts records b most-f most-k few =
 -- ---- one step
 
 -- a change that an ack delivers is remembered: rows 2 and 13
-remembered : (breaker : Breaker) (o : Option ℕ) → ofNamed o (λ back. leb back 7) ≡ true → ofNamed o (λ back. leb (back + 1) (breaker .changes .count)) ≡ true
+pub remembered : (breaker : Breaker) (o : Option ℕ) → ofNamed o (λ back. leb back 7) ≡ true → ofNamed o (λ back. leb (back + 1) (breaker .changes .count)) ≡ true
     → ofNamed o (λ back. isKnown (changeAt breaker back)) ≡ true
 unfolding changeAt
 remembered breaker none a b = refl

@@ -79,4 +79,4 @@ repeat-no-change first h m r b q t A T same done =
     (ap (λ (had : ℕ). eqb A had) (sym (reached-changing r b q .status)) ∙ eq-eqb _ _ same)
   where
     change : Change
-    change = record { number = nextNumber h; action = A; stamp = T; acked = Yes (m .site .breaker .pair); before = accepted h }
+    change = record { number = nextNumber h; clock = t; action = A; stamp = T; acked = Yes (m .site .breaker .pair); before = accepted h }

@@ -44,10 +44,10 @@ qualifies-fits s a above f T e = ltb-true T (2 ^ 32) (and-eq-true-iff (ltb (abov
 
 -- ---- a search of the whole list
 
-abbrev Found : (ℕ → Bool) → ℕ → (ℕ → ℕ) → Dts → Type 0
+abbrev pub Found : (ℕ → Bool) → ℕ → (ℕ → ℕ) → Dts → Type 0
 Found test n rule d = (i : ℕ) × (i < n) × (rule i ≡ d .0) × (test (rule i) ≡ true) × ((j : ℕ) → j < i → test (rule j) ≡ false)
 
-search-found : (test : ℕ → Bool) (n : ℕ) (rule : ℕ → ℕ) (d : Dts) → firstOf test (table n rule) ≡ Stamp d → Found test n rule d
+pub search-found : (test : ℕ → Bool) (n : ℕ) (rule : ℕ → ℕ) (d : Dts) → firstOf test (table n rule) ≡ Stamp d → Found test n rule d
 unfolding table
 search-found test zero rule d e = let z : _≡_ {A = ℕ} 0 1 = cc in absurd (omega arith)
 search-found test (suc n) rule d e = go (test (rule zero)) refl e (search-found test n (λ i. rule (suc i)) d)
@@ -67,7 +67,7 @@ search-found test (suc n) rule d e = go (test (rule zero)) refl e (search-found 
     go true et e ih = let q : dts (rule zero) ≡ d = cc in first et (ap (λ (x : Dts). x .0) q)
     go false et e ih = later et (ih e)
 
-search-nothing : (test : ℕ → Bool) (n : ℕ) (rule : ℕ → ℕ) → firstOf test (table n rule) ≡ Nothing → (j : ℕ) → j < n → test (rule j) ≡ false
+pub search-nothing : (test : ℕ → Bool) (n : ℕ) (rule : ℕ → ℕ) → firstOf test (table n rule) ≡ Nothing → (j : ℕ) → j < n → test (rule j) ≡ false
 unfolding table
 search-nothing test zero rule e j l = absurd (not-suc-le-zero l)
 search-nothing test (suc n) rule e j l = go (test (rule zero)) refl e (search-nothing test n (λ i. rule (suc i))) j l
@@ -145,3 +145,12 @@ earliest-stamp s a above f T e =
         let at : freshStamp (s .clock) (r .0) ≡ T .0 = r .2 in
         let j : U .0 + window - s .clock .0 < r .0 = omega (arith, bounds (s .clock) a U has) in
         too-few s a above f (U .0) h (omega arith) (rw (p .1) at (r .4 (U .0 + window - s .clock .0) j))
+
+-- A stamp that is found is no further ahead of the clock than a fresh one may be.
+pub earliest-ahead : (s : Store) (a : ℕ) (above : Dts) (f : ℕ) (T : Dts) → earliest s a above f ≡ Stamp T → T .0 ≤ s .clock .0 + window
+unfolding earliest
+earliest-ahead s a above f T e =
+    let r = search-found (qualifies s a above f) stamps (freshStamp (s .clock)) T e in
+    let l : r .0 < stamps = r .1 in
+    let at : freshStamp (s .clock) (r .0) ≡ T .0 = r .2 in
+    omega arith

@@ -1,0 +1,45 @@
+-- What the end of an event leaves, refusal 16 lets pass: the stamp of a command is fresh at the node's clock, and the node's own shares have the node as
+-- their sender.
+use Prim.Native.Nat.{ℕ, _+_, _≤_, _<_}
+use mathlib.Core.Path.{_≡_, refl}
+use mathlib.Core.Bool.{Bool, true, false, cond}
+use native.Mathlib.Omega.{arith}
+use borrow.Author.Tests.{le-leb}
+use Rattle.time.specs.Fresh.{window}
+use Rattle.time.specs.Limits.{lastHeldStamp, stampSound}
+use Rattle.store.specs.declared.Store.{Store}
+use Rattle.store.specs.declared.Earliest.{Earliest}
+use Rattle.store.specs.declared.Earliest.the-variants.{Stamp, Nothing}
+use Rattle.store.specs.Store.{storeWithin, put}
+use Rattle.store.specs.Earliest.{earliest}
+use Rattle.store.specs.laws.EarliestLaws.{earliest-ahead}
+use Rattle.store.specs.laws.WithinLaws.{put-within}
+use Rattle.pairs.specs.declared.Known.the-variants.{No}
+use Rattle.pairs.specs.declared.Pairs.{Pairs}
+use Rattle.pairs.specs.declared.Pairs.the-variants.{Zero, One, Two}
+use Rattle.node.specs.declared.Phase.{Phase}
+use Rattle.node.specs.declared.Phase.the-variants.{Down, Starting, Running}
+use Rattle.node.specs.State.{attempts}
+use Rattle.node.specs.laws.Soundness.{SoundPhase}
+use Rattle.combining.specs.Combining.{commanding, combined, ended, putAll}
+
+pub ended-sound : (store : Store) (f : ℕ) → store .clock .0 + window ≤ lastHeldStamp → (p : Phase) → SoundPhase p → SoundPhase (ended p store f .phase)
+unfolding combined
+ended-sound store f l Down s = s
+ended-sound store f l (Starting learned) s = s
+ended-sound store f l (Running rec) s = go (attempts (rec .r) (rec .b)) (earliest store (rec .r .status) (rec .b .stamp) f) refl
+  where
+    go : (x : Bool) (e : Earliest) → earliest store (rec .r .status) (rec .b .stamp) f ≡ e
+        → SoundPhase (Running (cond x (commanding rec e) (record { rec = rec; command = No }) .rec))
+    go false e is = s
+    go true Nothing is = s
+    go true (Stamp T) is = record { of-r = s .of-r; of-b = sound; of-resend = sound }
+      where
+        sound : stampSound T ≡ true
+        sound = let ahead = earliest-ahead store (rec .r .status) (rec .b .stamp) f T is in le-leb (T .0) lastHeldStamp (omega (arith, l, ahead))
+
+pub all-within : (s : Store) (n i : ℕ) (shares : Pairs) → storeWithin s n ≡ true → i < n → storeWithin (putAll s i shares) n ≡ true
+unfolding putAll
+all-within s n i Zero w l = w
+all-within s n i (One p) w l = put-within s n w i (p .status) (p .stamp) l
+all-within s n i (Two p q) w l = put-within (put s i (p .status) (p .stamp)) n (put-within s n w i (p .status) (p .stamp) l) i (q .status) (q .stamp) l
