@@ -1,0 +1,1 @@
+-- A table of sixteen records, lent by hand (step_larger).
