@@ -4,4 +4,5 @@ pub mod Replay
 pub mod Promised
 pub mod Example
 pub mod Settled
+pub mod Parts
 pub mod laws
