@@ -91,6 +91,9 @@ pub fn step(site: Site, nodes: &mut [Node], step: Step) -> Told
     let i = place(step, nodes.len());
     let told = act(nodes, site, i, step);
     let n = begins(told.answer, step);
+    if n == 0 {
+        return told;
+    }
     let compromised = compromised_of(step);
     loans::fill(nodes, n, compromised);
     told
