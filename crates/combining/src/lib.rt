@@ -120,7 +120,10 @@ pub fn finish(change: Changed, store: Store, i: u8, f: u8) -> Acted
     let phase = change.phase;
     let shares = change.shares;
     let before = change.command;
-    let own = put_all(store, i, shares);
+    let own = match shares {
+        Pairs::Zero => store,
+        _ => put_all(store, i, shares),
+    };
     let at_end = end(phase, own, f);
     let next = at_end.phase;
     let command = at_end.command;

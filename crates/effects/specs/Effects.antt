@@ -26,7 +26,6 @@ use Rattle.store.specs.declared.Store.{Store}
 use Rattle.site.specs.declared.Site.{Site}
 use Rattle.site.specs.declared.Sent.{Sent}
 use Rattle.site.specs.declared.Out.{Out}
-use Rattle.site.specs.Site.{g}
 use Rattle.site.specs.Answers.{silence, done}
 
 -- ---- the site with one thing changed
@@ -100,8 +99,11 @@ unfoldable pub firstRecord : ℕ → ℕ → Node
 firstRecord compromised i = cond (isIn compromised i) wentDown wentUp
 
 -- "Tick adds 1 to g." The stamps that are no longer fresh are forgotten.
+abbrev pub madeLater : Store → Store
+madeLater made = movedTo made (next (made .clock))
+
 unfoldable pub ticked : Site → Site
-ticked site = withMade site (movedTo (site .made) (next (g site)))
+ticked site = withMade site (madeLater (site .made))
 
 -- the end of an event at node i: what it made of the node, what it sends, and the shares that the site now knows to be made
 abbrev pub noted : Site → ℕ → Acted → Out

@@ -1,85 +1,29 @@
-// What each step of a site does once its tests are passed.
-use breaker::Breaker;
+// What each step of a site does once its tests are passed: of the site the part that it changes, and the record of the acting node. A command's part is the
+// breaker afterwards, which is `breaker::command`'s.
 use node::Node;
-use pairs::Known;
 use pairs::Pairs;
-use site::Answer;
-use site::Out;
-use site::Sent;
 use site::Site;
-use steps::Act;
 use steps::Beginning;
 use steps::Event;
-use steps::Step;
 use steps::Turn;
 use store::Store;
 use time::Dts;
 ghost use mathlib.Core.Path.{_≡_};
-ghost use Rattle.site.specs.Answers.{done, silence};
-ghost use Rattle.effects.specs.Effects.{withMade, withDown, withBreaker, noSite, startedSite, firstRecord, ticked, act, commanded, turned, effectOf};
+ghost use Rattle.effects.specs.Effects.{noSite, startedSite, firstRecord, madeLater};
+ghost use Rattle.effects.specs.laws.Parts.{notedOf, turnedOf};
 
-fn done(sent: Sent, site: Site, node: Node) -> Out
-    ensures { λ out. ⌜ out ≡ done sent site node ⌝ }
-{
-    Out {
-        answer: Answer::Done(sent),
-        site,
-        node,
-    }
+// What an event leaves: the node's record, the shares that the site knows to be made, and what is sent.
+pub struct Noted {
+    pub node: Node,
+    pub made: Store,
+    pub shares: Pairs,
+    pub commands: Pairs,
 }
 
-fn silence() -> Sent
-    ensures { λ out. ⌜ out ≡ silence ⌝ }
-{
-    Sent {
-        shares: Pairs::Zero,
-        commands: Pairs::Zero,
-        ack: Known::No,
-    }
-}
-
-fn with_made(site: Site, made: Store) -> Site
-    ensures { λ out. ⌜ out ≡ withMade site made ⌝ }
-{
-    let mut next = site;
-    next.made = made;
-    next
-}
-
-fn with_down(site: Site, down: u16) -> Site
-    ensures { λ out. ⌜ out ≡ withDown site down ⌝ }
-{
-    let mut next = site;
-    next.down = down;
-    next
-}
-
-fn with_breaker(site: Site, breaker: Breaker) -> Site
-    ensures { λ out. ⌜ out ≡ withBreaker site breaker ⌝ }
-{
-    let mut next = site;
-    next.breaker = breaker;
-    next
-}
-
-// An event at a node, to its end.
-fn act(site: Site, node: Node, i: u8, t: Dts, event: Event) -> Out
-    ensures { λ out. ⌜ out ≡ act site node i t event ⌝ }
-{
-    let breaker = site.breaker;
-    let acted = acting::act(breaker, node, i, site.f, t, event);
-    let after = acted.node;
-    let shares = acted.shares;
-    let commands = acted.commands;
-    let old = site.made;
-    let made = combining::put_all(old, i, shares);
-    let next = with_made(site, made);
-    let sent = Sent {
-        shares,
-        commands,
-        ack: Known::No,
-    };
-    done(sent, next, after)
+// What a turn leaves: the nodes that are down, and the record.
+pub struct Turned {
+    pub down: u16,
+    pub node: Node,
 }
 
 // What there is before a Start.
@@ -100,7 +44,7 @@ pub fn no_site() -> Site
 }
 
 // The site that a Start makes.
-fn fresh_site(beginning: Beginning) -> Site
+pub fn fresh_site(beginning: Beginning) -> Site
     ensures { λ out. ⌜ out ≡ startedSite beginning ⌝ }
 {
     let g = beginning.g;
@@ -128,62 +72,54 @@ pub fn first_record(compromised: u16, i: u8) -> Node
     }
 }
 
-fn tick(site: Site, node: Node) -> Out
-    ensures { λ out. ⌜ out ≡ done silence (ticked site) node ⌝ }
+// The shares that the site knows to be made, after a Tick.
+pub fn tick(made: Store) -> Store
+    ensures { λ out. ⌜ out ≡ madeLater made ⌝ }
 {
+    made.move_to(time::next(made.clock))
+}
+
+// An event at a node, to its end. Most events share nothing; where that is asked here, nothing is copied for them.
+pub fn note(site: Site, node: Node, i: u8, t: Dts, event: Event) -> Noted
+    ensures { λ out. ⌜ out ≡ notedOf site node i t event ⌝ }
+{
+    let breaker = site.breaker;
+    let acted = acting::act(breaker, node, i, site.f, t, event);
+    let after = acted.node;
+    let shares = acted.shares;
+    let commands = acted.commands;
     let old = site.made;
-    let made = old.move_to(time::next(old.clock));
-    let next = with_made(site, made);
-    done(silence(), next, node)
+    match shares {
+        Pairs::Zero => Noted {
+            node: after,
+            made: old,
+            shares: Pairs::Zero,
+            commands,
+        },
+        _ => {
+            let made = combining::put_all(old, i, shares);
+            Noted {
+                node: after,
+                made,
+                shares,
+                commands,
+            }
+        }
+    }
 }
 
-fn command(site: Site, node: Node, t: Dts, act: Act) -> Out
-    ensures { λ out. ⌜ out ≡ commanded site node t act ⌝ }
-{
-    let old = site.breaker;
-    let status = act.status;
-    let stamp = act.stamp;
-    let breaker = breaker::command(old, t, status, stamp);
-    let pair = breaker.pair;
-    let next = with_breaker(site, breaker);
-    let sent = Sent {
-        shares: Pairs::Zero,
-        commands: Pairs::Zero,
-        ack: Known::Yes(pair),
-    };
-    done(sent, next, node)
-}
-
-fn turn(site: Site, i: u8, turn: Turn) -> Out
-    ensures { λ out. ⌜ out ≡ turned site i turn ⌝ }
+// A turn in the life of a node.
+pub fn turn(down: u16, i: u8, turn: Turn) -> Turned
+    ensures { λ out. ⌜ out ≡ turnedOf down i turn ⌝ }
 {
     match turn {
-        Turn::Down => {
-            let next = with_down(site, senders::join(site.down, i));
-            done(silence(), next, events::down())
-        }
-        Turn::Up => {
-            let next = with_down(site, senders::forget(site.down, i));
-            done(silence(), next, events::up())
-        }
-    }
-}
-
-// What a step does where none of its tests fails. Most steps are events: asked for first, they cost fewer instructions than in the `match` alone.
-pub fn effect(site: Site, node: Node, step: Step) -> Out
-    ensures { λ out. ⌜ out ≡ effectOf site node step ⌝ }
-{
-    if let Step::AtNode { node: i, t, event } = step {
-        return act(site, node, i, t, event);
-    }
-    match step {
-        Step::Start(beginning) => {
-            let fresh = fresh_site(beginning);
-            done(silence(), fresh, node)
-        }
-        Step::Tick => tick(site, node),
-        Step::AtNode { node: i, t, event } => act(site, node, i, t, event),
-        Step::Life { node: i, turn } => crate::turn(site, i, turn),
-        Step::AtBreaker { t, act } => command(site, node, t, act),
+        Turn::Down => Turned {
+            down: senders::join(down, i),
+            node: events::down(),
+        },
+        Turn::Up => Turned {
+            down: senders::forget(down, i),
+            node: events::up(),
+        },
     }
 }

@@ -1,4 +1,5 @@
-// The refusal of each step: the number of the first test that fails, and 0 where none does.
+// The refusal of a step of each shape: the number of the first test that fails, and 0 where none does. The verdict of 16 is given: `is_sound_at` works it
+// out, and `site::sound::is_site_sound` where no node acts.
 use node::Node;
 use node::asked::is_armed;
 use node::asked::is_down;
@@ -24,11 +25,12 @@ use steps::Step;
 use steps::Turn;
 use time::Dts;
 ghost use mathlib.Core.Path.{_≡_};
+ghost use mathlib.Core.Bool.{_&&_};
 ghost use mathlib.Core.List.{[], _∷_};
 ghost use Rattle.refusals.specs.Tests.{refusal};
-ghost use Rattle.site.specs.Site.{siteSound};
-ghost use Rattle.refusing.specs.Tests.{isNow, isNode, verdict, canDeliver, canBegin, testsOf};
-ghost use Rattle.refusing.specs.laws.Parts.{whoTests, whenTests, shareTests, asked, commandFirst, commandLast, actTests, soundTests};
+ghost use Rattle.site.specs.Site.{siteSound, actorSound};
+ghost use Rattle.refusing.specs.Tests.{isNow, isNode, verdict, canDeliver, canBegin};
+ghost use Rattle.refusing.specs.laws.Parts.{whoTests, whenTests, shareTests, asked, commandFirst, commandLast, actTests, tickTests, givenTests};
 
 // What is asked of one event: 2 of its fields, 4 of the node's phase, and the refusal of its own tests.
 struct Asked {
@@ -70,18 +72,25 @@ fn can_deliver(site: Site, sender: u8, status: u8, stamp: Dts) -> bool
     compromised | is_made
 }
 
-// Tests 16, 2, 3 and 4 of a step at a node, where the site is sound.
-fn who(site: Site, node: Node, i: u8, fields: bool, phase: bool) -> u8
-    ensures { λ out. ⌜ out ≡ refusal (whoTests site node i fields phase) ⌝ }
+// The verdict of 16 on a site, a number of lent records and the record of the acting node i.
+pub fn is_sound_at(site: Site, lent: usize, node: Node, i: u8) -> bool
+    ensures { λ out. ⌜ out ≡ (siteSound site lent && actorSound site node i) ⌝ }
 {
+    let whole = is_site_sound(site, lent);
     let actor = is_actor_sound(site, node, i);
+    whole & actor
+}
+
+// Tests 2, 3 and 4 of a step at a node.
+fn who(site: Site, i: u8, fields: bool, phase: bool) -> u8
+    ensures { λ out. ⌜ out ≡ refusal (whoTests site i fields phase) ⌝ }
+{
     let known = is_node(site, i);
     let compromised = senders::is_in(site.compromised, i);
-    let a = test(16, actor);
-    let b = test(2, known & fields);
-    let c = test(3, !compromised);
-    let d = test(4, phase);
-    first(a, first(b, first(c, d)))
+    let a = test(2, known & fields);
+    let b = test(3, !compromised);
+    let c = test(4, phase);
+    first(a, first(b, c))
 }
 
 // Tests 5 and 6 of a step at a node.
@@ -174,26 +183,31 @@ fn ask(site: Site, node: Node, t: Dts, event: Event) -> Asked
     }
 }
 
-fn refuse_event(site: Site, node: Node, i: u8, t: Dts, event: Event) -> u8
-    ensures { λ out. ⌜ out ≡ refusal (soundTests site node (Step.AtNode i t event)) ⌝ }
+pub fn refuse_event(sound: bool, site: Site, node: Node, i: u8, t: Dts, event: Event) -> u8
+    ensures { λ out. ⌜ out ≡ refusal (givenTests sound site node (Step.AtNode i t event)) ⌝ }
 {
     let asked = ask(site, node, t, event);
-    let a = who(site, node, i, asked.fields, asked.phase);
-    let b = when(site, node, t);
-    first(a, first(b, asked.own))
+    let a = test(16, sound);
+    let b = who(site, i, asked.fields, asked.phase);
+    let c = when(site, node, t);
+    first(a, first(b, first(c, asked.own)))
 }
 
-fn refuse_turn(site: Site, node: Node, i: u8, turn: Turn) -> u8
-    ensures { λ out. ⌜ out ≡ refusal (soundTests site node (Step.Life i turn)) ⌝ }
+pub fn refuse_turn(sound: bool, site: Site, node: Node, i: u8, turn: Turn) -> u8
+    ensures { λ out. ⌜ out ≡ refusal (givenTests sound site node (Step.Life i turn)) ⌝ }
 {
     let down = is_down(node);
+    let a = test(16, sound);
     match turn {
         Turn::Down => {
-            let a = who(site, node, i, true, !down);
-            let b = test(14, senders::how_many(site.down) < site.k as u32);
+            let b = who(site, i, true, !down);
+            let c = test(14, senders::how_many(site.down) < site.k as u32);
+            first(a, first(b, c))
+        }
+        Turn::Up => {
+            let b = who(site, i, true, down);
             first(a, b)
         }
-        Turn::Up => who(site, node, i, true, down),
     }
 }
 
@@ -221,38 +235,24 @@ fn command_last(site: Site, t: Dts, status: u8, stamp: Dts) -> u8
     first(a, first(b, c))
 }
 
-fn refuse_act(site: Site, t: Dts, act: Act) -> u8
-    ensures { λ out. ⌜ out ≡ refusal (actTests site t act) ⌝ }
+pub fn refuse_act(sound: bool, site: Site, t: Dts, act: Act) -> u8
+    ensures { λ out. ⌜ out ≡ refusal ((16, sound) ∷ actTests site t act) ⌝ }
 {
-    let a = command_first(site, t, act.status);
-    let b = command_last(site, t, act.status, act.stamp);
+    let a = test(16, sound);
+    let b = command_first(site, t, act.status);
+    let c = command_last(site, t, act.status, act.stamp);
+    first(a, first(b, c))
+}
+
+pub fn refuse_tick(sound: bool, site: Site) -> u8
+    ensures { λ out. ⌜ out ≡ refusal ((16, sound) ∷ tickTests site) ⌝ }
+{
+    let a = test(16, sound);
+    let b = test(15, site.made.clock.0 != LAST_G);
     first(a, b)
 }
 
-// The tests of a step after those of the site. A Start has none of these.
-fn refuse_sound(site: Site, node: Node, step: Step) -> u8
-    ensures { λ out. ⌜ out ≡ refusal (soundTests site node step) ⌝ }
-{
-    match step {
-        Step::Start(_) => 0,
-        Step::Tick => test(15, site.made.clock.0 != LAST_G),
-        Step::AtNode { node: i, t, event } => refuse_event(site, node, i, t, event),
-        Step::Life { node: i, turn } => refuse_turn(site, node, i, turn),
-        Step::AtBreaker { t, act } => refuse_act(site, t, act),
-    }
-}
-
-// Whether the site is sound is asked once for every step but Start, and before all else.
-fn refuse_other(site: Site, lent: usize, node: Node, step: Step) -> u8
-    ensures { λ out. ⌜ out ≡ refusal ((16, siteSound site lent) ∷ soundTests site node step) ⌝ }
-{
-    if is_site_sound(site, lent) {
-        return refuse_sound(site, node, step);
-    }
-    16
-}
-
-fn refuse_start(lent: usize, beginning: Beginning) -> u8
+pub fn refuse_start(lent: usize, beginning: Beginning) -> u8
     ensures { λ out. ⌜ out ≡ refusal ((1, canBegin lent beginning) ∷ []) ⌝ }
 {
     let f = beginning.f;
@@ -265,14 +265,4 @@ fn refuse_start(lent: usize, beginning: Beginning) -> u8
     let below = senders::is_within(compromised, n);
     let few = senders::how_many(compromised) <= f as u32;
     test(1, numbers & below & few & (n as usize <= lent))
-}
-
-// The refusal of any step.
-pub fn refuse(site: Site, lent: usize, node: Node, step: Step) -> u8
-    ensures { λ out. ⌜ out ≡ refusal (testsOf site lent node step) ⌝ }
-{
-    match step {
-        Step::Start(beginning) => refuse_start(lent, beginning),
-        _ => refuse_other(site, lent, node, step),
-    }
 }

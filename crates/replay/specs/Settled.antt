@@ -40,14 +40,13 @@ pub within-settled : (site : Site) (records : List Node) (count : ℕ) (step : S
     → Settles λ (o : Answer × (Site × List Node)). SaidWithin site records count step (o .0) (o .1 .0) (o .1 .1)
 within-settled site records count step x y p q = λ k. (settled (p .0) (q .0) k, (settled (p .1 .0) (q .1 .0) k, settled (p .1 .1) (q .1 .1) k))
 
--- ---- bytes: `writer::write`, `text::line::put_line`, `run::run_block`
+-- ---- bytes: `writer::write`, `text::line::put_quiet` and `put_loud`, each with its text, `run::run_block`
 
 pub written-settled : (version : ℕ) (step : Step) (log : List ℕ) (at : ℕ) → Settles λ (o : Written × List ℕ). (o .0 ≡ written version step log at) × (o .1 ≡ bytesAfter version step log at)
 written-settled version step log at x y p q = λ k. (settled (p .0) (q .0) k, settled (p .1) (q .1) k)
 
-pub line-settled : (out : List ℕ) (at number : ℕ) (site : Site) (i : ℕ) (answer : Answer)
-    → Settles λ (o : List ℕ × ℕ). (o .0 ≡ lineBytes out at (lineText number site i answer)) × (o .1 ≡ lineNext out at (lineText number site i answer))
-line-settled out at number site i answer x y p q = λ k. (settled (p .0) (q .0) k, settled (p .1) (q .1) k)
+pub line-settled : (out : List ℕ) (at : ℕ) (text : List ℕ) → Settles λ (o : List ℕ × ℕ). (o .0 ≡ lineBytes out at text) × (o .1 ≡ lineNext out at text)
+line-settled out at text x y p q = λ k. (settled (p .0) (q .0) k, settled (p .1) (q .1) k)
 
 pub ran-settled : (run : Run) (log : List ℕ) (last : Bool) (before : List ℕ) → Settles λ (o : Ran × List ℕ). Block run log last before (o .1) (o .0)
 ran-settled run log last before x y p q = let same = block-settled run log last before (x .1) (y .1) (x .0) (y .0) p q in λ k. (same .0 k, same .1 k)

@@ -40,6 +40,9 @@ pub fn forget(mask: u16, sender: u8) -> u16
 pub fn is_enough(mask: u16, f: u8) -> bool
     ensures { λ out. ⌜ out ≡ enough mask f ⌝ }
 {
+    if mask == 0 {
+        return false;
+    }
     f as u32 + 1 <= u16::count_ones(mask)
 }
 

@@ -5,11 +5,12 @@ use time::WINDOW;
 ghost use Prim.Native.Nat.{_<_};
 ghost use mathlib.Core.Path.{_≡_};
 ghost use Rattle.store.specs.Store.{placeOf, empty, put, turn, movedTo, sendersOf, storeWithin};
-ghost use Rattle.store.specs.Earliest.{freshStamp, qualifies, earliest};
+ghost use Rattle.store.specs.Earliest.{freshStamp, earliest};
 
+// The sets stand in front: a whole store is then read in memory as its parts were written, and the processor need not wait.
 pub struct Store {
-    pub clock: Dts,
     pub masks: [u16; 10],
+    pub clock: Dts,
 }
 
 // Where the senders of an action and a stamp stand.
@@ -120,30 +121,27 @@ impl Store {
         self
     }
 
-    // Whether a stamp is above a bound and held from at least f + 1 senders for an action.
-    fn qualifies(self, action: u8, stamp: u64, above: Dts, f: u8) -> bool
-        ensures { λ out. ⌜ out ≡ qualifies self action above f stamp ⌝ }
-    {
-        if stamp <= above.0 as u64 {
-            return false;
-        }
-        if 4294967295 < stamp {
-            return false;
-        }
-        let mask = self.senders(action, Dts(stamp as u32));
-        senders::is_enough(mask, f)
-    }
-
-    // The earliest fresh stamp above a bound that is held from at least f + 1 senders for an action.
+    // The earliest fresh stamp above a bound that is held from at least f + 1 senders for an action. A fresh stamp of an action has a place, and
+    // its set is read there: to ask `senders` for each would copy the store each time.
     pub fn earliest(self, action: u8, above: Dts, f: u8) -> Earliest
         ensures { λ out. ⌜ out ≡ earliest self action above f ⌝ }
     {
+        if 2 <= action {
+            return Earliest::Nothing;
+        }
         let clock = self.clock;
+        let masks = self.masks;
+        let row = action as usize * 5;
         let mut i = 0;
         while i < 5 {
             let stamp = fresh_stamp(clock, i);
-            if self.qualifies(action, stamp, above, f) {
-                return Earliest::Stamp(Dts(stamp as u32));
+            if (above.0 as u64) < stamp {
+                let mask = masks[row + (stamp % 5) as usize];
+                if senders::is_enough(mask, f) {
+                    if stamp <= 4294967295 {
+                        return Earliest::Stamp(Dts(stamp as u32));
+                    }
+                }
             }
             i += 1;
         }

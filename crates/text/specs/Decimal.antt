@@ -1,10 +1,8 @@
 -- A number in decimal digits, with no zero in front.
-use Prim.Native.Nat.{ℕ, zero, suc, _+_, _-_, _/_, _%_, _^_, _≤_}
-use mathlib.Core.Path.{_≡_}
+use Prim.Native.Nat.{ℕ, zero, suc, _+_, _/_, _%_}
 use mathlib.Core.Bool.{cond}
 use mathlib.Core.List.{List, [], _∷_, _++_}
 use lib.Dec.{ltb}
-use lib.Seq.{sets}
 
 -- the last w digits
 unfoldable pub spelled : ℕ → ℕ → List ℕ
@@ -25,9 +23,3 @@ digitCount n = placesIn most n
 
 unfoldable pub decimal : ℕ → List ℕ
 decimal n = spelled (digitCount n) n
-
--- left digits of count are still to be spelled, and rest is the number without those that are
-pub record Spelling (before : List ℕ) (at count n : ℕ) (now : List ℕ) (left rest : ℕ) : Type 0 where
-  pub within : left ≤ count
-  pub rests : rest ≡ n / 10 ^ (count - left)
-  pub bytes : now ≡ sets before (at + left) (spelled (count - left) n)

@@ -1,21 +1,22 @@
 // A line: number, refusal, the breaker, and what was sent.
+use crate::put_few;
 use crate::put_number;
 use pairs::Known;
 use pairs::Pair;
 use pairs::Pairs;
-use site::Answer;
 use site::Sent;
 use site::Site;
 ghost use Prim.Native.Nat.{_+_, _≤_};
 ghost use mathlib.Core.Path.{_≡_};
 ghost use mathlib.Core.List.{[], _∷_, _++_, map};
+ghost use lib.Dec.{leb};
 ghost use lib.ListN.{length};
 ghost use Rattle.pairs.specs.Pair.{listed, listedKnown};
-ghost use Rattle.site.specs.Answers.{Message, numberOf, messagesOf};
+ghost use Rattle.site.specs.Answers.{Message};
 ghost use Rattle.text.specs.Puts.{Puts};
 ghost use Rattle.text.specs.Decimal.{decimal};
-ghost use Rattle.text.specs.Line.{letter, pairText, afterCommas, tailText, shownStatus, shownStamp};
-ghost use Rattle.text.specs.Lines.{sentMessages, lineText, lineBytes, lineNext};
+ghost use Rattle.text.specs.Line.{letter, pairText, afterCommas, headWith, tailText, lineWith, shownStatus, shownStamp};
+ghost use Rattle.text.specs.Lines.{longestLine, sentMessages, lineBytes, lineNext};
 
 // Room for this many bytes is asked for before a line: no line is longer.
 pub const LONGEST_LINE: usize = 256;
@@ -119,11 +120,11 @@ fn put_sent(out: &mut [u8], at: usize, i: u8, sent: Sent) -> usize
 
 fn put_head(out: &mut [u8], at: usize, number: u64, refusal: u8, status: u8, stamp: u32) -> usize
     requires { ⌜ at + 64 ≤ length (now out) ⌝ }
-    ensures { λ r. ⌜ Puts (now (out .entry)) at (decimal number ++ (32 ∷ (decimal refusal ++ (32 ∷ status ∷ 32 ∷ decimal stamp)))) (now (out .exit)) r ⌝ }
+    ensures { λ r. ⌜ Puts (now (out .entry)) at (headWith number refusal status stamp) (now (out .exit)) r ⌝ }
 {
     let a = put_number(out, at, number);
     let b = put_byte(out, a, b' ');
-    let c = put_number(out, b, refusal as u64);
+    let c = put_few(out, b, refusal as u32);
     let d = put_byte(out, c, b' ');
     let e = put_byte(out, d, status);
     let f = put_byte(out, e, b' ');
@@ -153,27 +154,7 @@ fn put_tail(out: &mut [u8], at: usize, i: u8, sent: Sent) -> usize
     put_byte(out, next, b'\n')
 }
 
-fn number_of(answer: Answer) -> u8
-    ensures { λ out. ⌜ out ≡ numberOf answer ⌝ }
-{
-    match answer {
-        Answer::Done(_) => 0,
-        Answer::Refused(number) => number,
-    }
-}
-
-// What an answer says was sent, with a line's end.
-fn put_answer(out: &mut [u8], at: usize, i: u8, answer: Answer) -> usize
-    requires { ⌜ at + 163 ≤ length (now out) ⌝ }
-    ensures { λ r. ⌜ Puts (now (out .entry)) at (tailText i (messagesOf answer)) (now (out .exit)) r ⌝ }
-{
-    match answer {
-        Answer::Done(sent) => put_tail(out, at, i, sent),
-        Answer::Refused(_) => put_nothing(out, at),
-    }
-}
-
-fn shown_status(site: Site) -> u8
+pub fn shown_status(site: Site) -> u8
     ensures { λ out. ⌜ out ≡ shownStatus site ⌝ }
 {
     if site.started {
@@ -183,7 +164,7 @@ fn shown_status(site: Site) -> u8
     }
 }
 
-fn shown_stamp(site: Site) -> u32
+pub fn shown_stamp(site: Site) -> u32
     ensures { λ out. ⌜ out ≡ shownStamp site ⌝ }
 {
     if site.started {
@@ -193,19 +174,50 @@ fn shown_stamp(site: Site) -> u32
     }
 }
 
-// Puts a line, where there is room for the longest; otherwise nothing is written, and the place handed back is the one given.
-pub fn put_line(out: &mut [u8], at: usize, number: u64, site: Site, i: u8, answer: Answer) -> usize
-    ensures { λ r. ⌜ (now (out .exit) ≡ lineBytes (now (out .entry)) at (lineText number site i answer)) × (r ≡ lineNext (now (out .entry)) at (lineText number site i answer)) ⌝ }
+// Whether so many bytes leave room for the longest line at a place.
+fn has_room(size: usize, at: usize) -> bool
+    ensures { λ out. ⌜ out ≡ leb (at + longestLine) size ⌝ }
 {
-    if out.len() < LONGEST_LINE {
-        return at;
+    if size < LONGEST_LINE {
+        return false;
     }
-    if out.len() - LONGEST_LINE < at {
-        return at;
+    at <= size - LONGEST_LINE
+}
+
+// Puts the line of a step that sent nothing, where there is room for the longest; otherwise nothing is written, and the place handed back is the
+// one given.
+pub fn put_quiet(
+    out: &mut [u8],
+    at: usize,
+    number: u64,
+    refusal: u8,
+    status: u8,
+    stamp: u32,
+) -> usize
+    ensures { λ r. ⌜ (now (out .exit) ≡ lineBytes (now (out .entry)) at (lineWith number refusal status stamp 0 [])) × (r ≡ lineNext (now (out .entry)) at (lineWith number refusal status stamp 0 [])) ⌝ }
+{
+    if has_room(out.len(), at) {
+        let space = put_head(out, at, number, refusal, status, stamp);
+        return put_nothing(out, space);
     }
-    let status = shown_status(site);
-    let stamp = shown_stamp(site);
-    let refusal = number_of(answer);
-    let space = put_head(out, at, number, refusal, status, stamp);
-    put_answer(out, space, i, answer)
+    at
+}
+
+// The same for a step that was done, with what it sent.
+pub fn put_loud(
+    out: &mut [u8],
+    at: usize,
+    number: u64,
+    status: u8,
+    stamp: u32,
+    i: u8,
+    sent: Sent,
+) -> usize
+    ensures { λ r. ⌜ (now (out .exit) ≡ lineBytes (now (out .entry)) at (lineWith number 0 status stamp i (sentMessages sent))) × (r ≡ lineNext (now (out .entry)) at (lineWith number 0 status stamp i (sentMessages sent))) ⌝ }
+{
+    if has_room(out.len(), at) {
+        let space = put_head(out, at, number, 0, status, stamp);
+        return put_tail(out, space, i, sent);
+    }
+    at
 }

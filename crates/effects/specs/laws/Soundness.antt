@@ -1,7 +1,7 @@
 -- What each step leaves of a site that refusal 16 lets pass, 16 lets pass too; and so it does a site at the start.
 use Prim.Native.Nat.{ℕ, _≤_, _<_}
 use mathlib.Core.Path.{_≡_, refl, ap, _∙_}
-use mathlib.Core.Bool.{true}
+use mathlib.Core.Bool.{Bool, true, false, cond}
 use native.Mathlib.Omega.{arith}
 use lib.Dec.{leb}
 use borrow.Author.Tests.{leb-true, le-leb}
@@ -11,7 +11,7 @@ use Rattle.time.specs.Larger.{larger}
 use Rattle.time.specs.Limits.{lastHeldStamp, lastHeldClock}
 use Rattle.time.specs.laws.Fresh.{latestClock, fresh-ahead, next-is}
 use Rattle.time.specs.laws.Larger.{larger-most}
-use Rattle.senders.specs.Masks.{size, within}
+use Rattle.senders.specs.Masks.{isIn, size, within}
 use Rattle.senders.specs.laws.Within.{joined-within, without-within, none-within}
 use Rattle.store.specs.declared.Store.{Store}
 use Rattle.store.specs.Store.{empty, movedTo, storeWithin}
@@ -27,6 +27,7 @@ use Rattle.node.specs.Asked.{nodeSound}
 use Rattle.combining.specs.Combining.{putAll}
 use Rattle.combining.specs.laws.OwnLaws.{clock-all}
 use Rattle.combining.specs.laws.Soundness.{all-within}
+use Rattle.events.specs.Events.{wentDown, wentUp}
 use Rattle.events.specs.laws.Soundness.{went-down-sound, went-up-sound}
 use Rattle.breaker.specs.declared.Breaker.{Breaker}
 use Rattle.breaker.specs.Breaker.{afterCommand, breakerSound}
@@ -36,9 +37,17 @@ use Rattle.site.specs.declared.Out.{Out}
 use Rattle.site.specs.Answers.{silence, done}
 use Rattle.site.specs.Site.{nodes, n, g, mostF, mostK, firstG, lastStartG, lastG, siteSound}
 use Rattle.site.specs.laws.Sound.{Tested, tested, tests-passed}
-use Rattle.effects.specs.Effects.{withMade, withDown, withBreaker, startedSite, ticked, turned}
+use Rattle.effects.specs.Effects.{withMade, withDown, withBreaker, startedSite, firstRecord, ticked, turned}
 
 -- ---- a Start: what row 1 asks of it is what 16 asks of the site
+
+pub first-sound : (compromised j count : ℕ) → nodeSound (firstRecord compromised j) count ≡ true
+unfolding firstRecord
+first-sound compromised j count = either (isIn compromised j)
+  where
+    either : (x : Bool) → nodeSound (cond x wentDown wentUp) count ≡ true
+    either true = went-down-sound count
+    either false = went-up-sound count
 
 pub begun-sound : (b : Beginning) (lent : ℕ) → b .f ≤ mostF → b .k ≤ mostK → b .status ≤ 1 → firstG ≤ b .g .0 → b .g .0 ≤ lastStartG
     → within (b .compromised) (nodes (b .f) (b .k)) ≡ true → size (b .compromised) ≤ b .f → nodes (b .f) (b .k) ≤ lent → siteSound (startedSite b) lent ≡ true

@@ -4,7 +4,7 @@ use mathlib.Core.Path.{_≡_, refl, ap}
 use mathlib.Core.Bool.{Bool, cond}
 use mathlib.Core.List.{List, [], _∷_, _++_}
 use native.Mathlib.Nat.{not-suc-le-zero, le-of-suc-le-suc}
-use lib.ListN.{length, set, drop}
+use lib.ListN.{length, getD, set, drop}
 use borrow.Author.Tests.{le-leb, lt-leb}
 use Rattle.tables.specs.Tables.{table}
 use Rattle.senders.specs.laws.MaskLaws.{in-above}
@@ -17,6 +17,13 @@ use Rattle.loans.specs.Loans.{firstRecords, madeFirst}
 pub first-above : (compromised i : ℕ) → compromised < 2 ^ 16 → 16 ≤ i → firstRecord compromised i ≡ wentUp
 unfolding firstRecord
 first-above compromised i h l = ap (λ (b : Bool). cond b wentDown wentUp) (in-above compromised i h l)
+
+-- the front of a list that begins with a table
+pub front : {A : Type 0} (n : ℕ) (rule : ℕ → A) (l : List A) (j : ℕ) (d : A) → j < n → getD (table n rule ++ l) j d ≡ rule j
+unfolding table
+front zero rule l j d h = absurd (not-suc-le-zero h)
+front (suc n) rule l zero d h = refl
+front (suc n) rule l (suc j) d h = front n (λ i. rule (suc i)) l j d (le-of-suc-le-suc h)
 
 module _ {A : Type 0} where
   -- a list whose first n places are the rule's, and the next of them

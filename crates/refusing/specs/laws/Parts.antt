@@ -1,7 +1,7 @@
 -- What the functions inside this crate promise: the table, cut as the code goes through it.
 use Prim.Native.Nat.{ℕ, _+_}
 use mathlib.Core.Path.{_≡_, refl, sym, ap, _∙_}
-use mathlib.Core.Bool.{Bool, true, false, not, _&&_, _||_, cond, false≢true}
+use mathlib.Core.Bool.{Bool, true, false, not, _&&_, _||_, false≢true}
 use mathlib.Core.List.{List, [], _∷_, _++_}
 use lib.Dec.{eqb, leb, ltb}
 use Rattle.refusals.specs.Tests.{Test, refusal}
@@ -18,21 +18,20 @@ use Rattle.steps.specs.declared.Turn.the-variants.{Down, Up}
 use Rattle.steps.specs.declared.Act.{Act}
 use Rattle.steps.specs.declared.Step.{Step}
 use Rattle.steps.specs.declared.Step.the-variants.{Start, Tick, AtNode, Life, AtBreaker}
-use Rattle.steps.specs.Named.{report, deliver, shareTimeout, resendTimeout, ack, query, down, up, saidBy, saidByTurn}
+use Rattle.steps.specs.Named.{report, deliver, shareTimeout, resendTimeout, ack, query, down, up, named, saidBy, saidByTurn}
 use Rattle.node.specs.declared.Node.{Node}
 use Rattle.node.specs.declared.Phase.{Phase}
 use Rattle.node.specs.declared.Phase.the-variants.{Starting, Running, Down as NotUp}
 use Rattle.node.specs.Asked.{phaseDown, isDown, isStarting, isRunning, isNew, inAttempt, armed}
 use Rattle.breaker.specs.Breaker.{repeats}
 use Rattle.site.specs.declared.Site.{Site}
-use Rattle.site.specs.Site.{g, lastG, siteSound, actorSound}
-use Rattle.refusing.specs.Tests.{isNow, isNode, isStatus, verdict, canDeliver, phaseTakes, nodeClock, canBegin, areInRange, testsOf}
+use Rattle.site.specs.Site.{g, lastG}
+use Rattle.refusing.specs.Tests.{isNow, isNode, isStatus, verdict, canDeliver, phaseTakes, nodeClock, areSound, canBegin, areInRange, testsOf}
 
--- 16, 2, 3 and 4 of a step at a node, where the site is sound
-abbrev pub whoTests : Site → Node → ℕ → Bool → Bool → List Test
-whoTests site node i fields phase =
-    (16, actorSound site node i)
-    ∷ (2, isNode site i && fields)
+-- 2, 3 and 4 of a step at a node
+abbrev pub whoTests : Site → ℕ → Bool → Bool → List Test
+whoTests site i fields phase =
+    (2, isNode site i && fields)
     ∷ (3, not (isIn (site .compromised) i))
     ∷ (4, phase)
     ∷ []
@@ -79,16 +78,23 @@ commandLast site t status T =
 abbrev pub actTests : Site → Dts → Act → List Test
 actTests site t act = commandFirst site t (act .status) ++ commandLast site t (act .status) (act .stamp)
 
--- what is left of a step's tests once the site is found to be sound; a Start has none of these
+abbrev pub tickTests : Site → List Test
+tickTests site = (15, not (eqb (g site .0) lastG)) ∷ []
+
+-- what is left of a step's tests after 16; a Start has none of these
 abbrev pub soundTests : Site → Node → Step → List Test
 soundTests site node (Start b) = []
-soundTests site node Tick = (15, not (eqb (g site .0) lastG)) ∷ []
+soundTests site node Tick = tickTests site
 soundTests site node (AtNode i t event) =
-    whoTests site node i (areInRange site (saidBy event)) (phaseTakes (node .phase) (saidBy event .kind))
+    whoTests site i (areInRange site (saidBy event)) (phaseTakes (node .phase) (saidBy event .kind))
     ++ (whenTests site node t ++ eventTests site node t event)
 soundTests site node (Life i turn) =
-    whoTests site node i (areInRange site (saidByTurn turn)) (phaseTakes (node .phase) (saidByTurn turn .kind)) ++ turnTests site turn
+    whoTests site i (areInRange site (saidByTurn turn)) (phaseTakes (node .phase) (saidByTurn turn .kind)) ++ turnTests site turn
 soundTests site node (AtBreaker t act) = actTests site t act
+
+-- a step's tests, with a verdict of 16 that is given
+abbrev pub givenTests : Bool → Site → Node → Step → List Test
+givenTests sound site node step = (16, sound) ∷ soundTests site node step
 
 -- ---- what 2 asks of an event's fields, and 4 of a node's phase, as the code asks it
 
@@ -131,37 +137,36 @@ not-down NotUp event e = absurd (false≢true (sym (no-up event) ∙ e))
 not-down (Starting learned) event e = refl
 not-down (Running rec) event e = refl
 
--- ---- that the cut gives the table's refusal
-
-cond-and : (a b : Bool) (x y : ℕ) → cond (a && b) x y ≡ cond a (cond b x y) y
-cond-and true b x y = refl
-cond-and false b x y = refl
+-- ---- that the cut gives the table's refusal, where the verdict is the table's
 
 module _ (site : Site) (lent : ℕ) (node : Node) where
   abbrev Cut : Step → Type 0
-  Cut step = refusal ((16, siteSound site lent) ∷ soundTests site node step) ≡ refusal (testsOf site lent node step)
+  Cut step = (sound : Bool) → sound ≡ areSound site lent node (named step) → refusal (givenTests sound site node step) ≡ refusal (testsOf site lent node step)
+
+  cut-by : (step : Step) → refusal (givenTests (areSound site lent node (named step)) site node step) ≡ refusal (testsOf site lent node step) → Cut step
+  cut-by step e sound is = ap (λ (verdict : Bool). refusal (givenTests verdict site node step)) is ∙ e
 
   pub cut-event : (i : ℕ) (t : Dts) (event : Event) → Cut (AtNode i t event)
   unfolding testsOf refusal
-  cut-event i t (Report status number) = simp (and-true, cond-and)
-  cut-event i t (Deliver sender status T) = simp (and-true, cond-and)
-  cut-event i t ShareTimeout = simp (and-true, cond-and)
-  cut-event i t ResendTimeout = simp (and-true, cond-and)
-  cut-event i t (Ack back) = simp (and-true, cond-and)
-  cut-event i t Query = simp (and-true, cond-and)
+  cut-event i t (Report status number) = cut-by (AtNode i t (Report status number)) (simp and-true)
+  cut-event i t (Deliver sender status T) = cut-by (AtNode i t (Deliver sender status T)) (simp and-true)
+  cut-event i t ShareTimeout = cut-by (AtNode i t ShareTimeout) (simp and-true)
+  cut-event i t ResendTimeout = cut-by (AtNode i t ResendTimeout) (simp and-true)
+  cut-event i t (Ack back) = cut-by (AtNode i t (Ack back)) refl
+  cut-event i t Query = cut-by (AtNode i t Query) (simp and-true)
 
   pub cut-turn : (i : ℕ) (turn : Turn) → Cut (Life i turn)
   unfolding testsOf refusal
-  cut-turn i Down = simp (and-true, cond-and)
-  cut-turn i Up = simp (and-true, cond-and)
+  cut-turn i Down = cut-by (Life i Down) (simp and-true)
+  cut-turn i Up = cut-by (Life i Up) (simp and-true)
 
   pub cut-act : (t : Dts) (act : Act) → Cut (AtBreaker t act)
   unfolding testsOf refusal
-  cut-act t act = simp and-true
+  cut-act t act = cut-by (AtBreaker t act) (simp and-true)
 
   pub cut-tick : Cut Tick
   unfolding testsOf refusal
-  cut-tick = simp and-true
+  cut-tick = cut-by Tick (simp and-true)
 
 -- a Start has row 1 alone
 pub start-alone : (site : Site) (lent : ℕ) (node : Node) (b : Beginning) → refusal ((1, canBegin lent b) ∷ []) ≡ refusal (testsOf site lent node (Start b))

@@ -10,10 +10,10 @@ use lib.Bits.{bitOr, bitXor, differ, or-lt}
 use lib.Count.{ones, onesIn, ones-step}
 use lib.Dec.{eqb, ltb, lit<}
 use lib.Pow.{pow-lt, pow-mono, shr-lt, shr-shr}
-use borrow.Author.Tests.{eq-eqb, eqb-true, eqb-false, ne-eqb, lt-ltb, ltb-true}
+use borrow.Author.Tests.{eq-eqb, eqb-true, eqb-false, ne-eqb, lt-ltb, lt-leb, ltb-true}
 use Rattle.senders.specs.Sets.{countBelow, tally, both}
 use Rattle.senders.specs.laws.Sets.{count-ext, count-low, count-joined, count-above, outside}
-use Rattle.senders.specs.Masks.{room, isIn, size, joined, without, together}
+use Rattle.senders.specs.Masks.{room, isIn, size, enough, joined, without, together}
 use Rattle.senders.specs.laws.Bits.{bit, bit-lt, bit-or, bit-xor, own-bit, other-bit}
 
 -- ---- the count of ones is the size of the set
@@ -40,6 +40,14 @@ ones-count (suc k) mask h =
 pub ones-size : (mask : ℕ) → mask < 2 ^ room → ones mask ≡ size mask
 unfolding size
 ones-size mask h = ones-count room mask h
+
+-- nobody is in the empty set, and nobody is not enough
+pub size-none : size 0 ≡ 0
+unfolding size countBelow isIn
+size-none = refl
+
+pub none-enough : (f : ℕ) → enough 0 f ≡ false
+none-enough f = simp size-none (lt-leb (f + 1) 0 (omega arith))
 
 -- ---- who is in a set
 

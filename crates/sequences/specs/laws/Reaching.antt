@@ -41,6 +41,7 @@ use Rattle.refusing.specs.laws.Accepted.{Passes, row-passed, begins, happens, t
 use Rattle.effects.specs.Effects.{startedSite, firstRecord, ticked, act, commanded, turned, effectOf}
 use Rattle.stepping.specs.laws.StepLaws.{by-tests}
 use Rattle.loans.specs.Loans.{firstRecords}
+use Rattle.loans.specs.laws.LoanLaws.{front}
 use Rattle.lent.specs.Lent.{recordOf, outOf, tableAfter, tableAfterAnswer}
 use Rattle.sequences.specs.History.{Entry, Accepted, nextNumber, lastStart, accepted, atNode, life, oneOf}
 use Rattle.sequences.specs.Moments.{Moment, Reached, from, then}
@@ -83,12 +84,6 @@ fits-up f j own e =
     }
 
 -- ---- Start
-
-pub front : {A : Type 0} (n : ℕ) (rule : ℕ → A) (l : List A) (j : ℕ) (d : A) → j < n → getD (table n rule ++ l) j d ≡ rule j
-unfolding table
-front zero rule l j d h = absurd (not-suc-le-zero h)
-front (suc n) rule l zero d h = refl
-front (suc n) rule l (suc j) d h = front n (λ i. rule (suc i)) l j d (le-of-suc-le-suc h)
 
 starts : (records : List Node) (b : Beginning) → b .f ≤ mostF → b .k ≤ mostK → size (b .compromised) ≤ b .f
     → Keeps b [] (startedSite b) (firstRecords (nodes (b .f) (b .k)) (b .compromised) records)

@@ -32,16 +32,16 @@ use Rattle.site.specs.laws.Sound.{tested}
 use Rattle.refusing.specs.Tests.{isNode, areSound, unlessStart}
 use Rattle.refusing.specs.laws.Accepted.{Passes, row-passed, begins, begins-within, ticks, happens, turns, at-breaker}
 use Rattle.effects.specs.Effects.{startedSite, firstRecord, ticked, act, commanded, effectOf}
-use Rattle.effects.specs.laws.Soundness.{begun-sound, ticked-sound, noted-sound, turned-sound, commanded-sound}
+use Rattle.effects.specs.laws.Soundness.{first-sound, begun-sound, ticked-sound, noted-sound, turned-sound, commanded-sound}
 use Rattle.stepping.specs.laws.StepLaws.{by-tests}
 use Rattle.rows.specs.laws.Cases.{not-given}
 use Rattle.lent.specs.Lent.{recordOf, outOf, tableAfter, tableAfterAnswer}
-use Rattle.loans.specs.laws.LoanLaws.{begun-length}
+use Rattle.loans.specs.laws.LoanLaws.{front, begun-length}
 use Rattle.sequences.specs.History.{Entry, lastStart}
 use Rattle.sequences.specs.Moments.{Moment, Reached, from, then, nodeAt}
 use Rattle.sequences.specs.Demand.{Always}
 use Rattle.sequences.specs.State.{NeverDamaged}
-use Rattle.sequences.specs.laws.Reaching.{front, no-start, reached-keeps}
+use Rattle.sequences.specs.laws.Reaching.{no-start, reached-keeps}
 
 -- what 16 asks of a site, of the length of its table and of its nodes' records
 pub record Sound (site : Site) (records : List Node) : Type 0 where
@@ -93,15 +93,11 @@ module _ (h : List Entry) (site : Site) (records : List Node) (before : (b : Beg
             (begun-sound first (length records) (begun .most-f) (begun .most-k) (given .is-status) (given .first-g) (given .last-g) (given .inside) (begun .few) (begun .lends));
         of-nodes = λ j l.
             subst (λ (x : Node). nodeSound x count ≡ true) (sym (front count (firstRecord (first .compromised)) (drop count records) j wentDown l))
-            (either (isIn (first .compromised) j));
+            (first-sound (first .compromised) j count);
       }
     where
       count : ℕ
       count = nodes (first .f) (first .k)
-
-      either : (x : Bool) → nodeSound (cond x wentDown wentUp) count ≡ true
-      either true = went-down-sound count
-      either false = went-up-sound count
 
   one-tick : Does Tick
   unfolding effectOf ticked

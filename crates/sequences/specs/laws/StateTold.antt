@@ -43,11 +43,12 @@ use Rattle.effects.specs.Effects.{startedSite, firstRecord, ticked, act, comman
 use Rattle.stepping.specs.laws.StepLaws.{by-tests}
 use Rattle.lent.specs.Lent.{recordOf, outOf, tableAfter, tableAfterAnswer}
 use Rattle.loans.specs.Loans.{firstRecords}
+use Rattle.loans.specs.laws.LoanLaws.{front}
 use Rattle.sequences.specs.History.{Entry, Accepted, nextNumber, lastStart, accepted, atNode}
 use Rattle.sequences.specs.Moments.{Moment, Reached, from, then}
 use Rattle.sequences.specs.laws.Fitting.{doneWith, sentBy}
 use Rattle.sequences.specs.laws.Keeps.{FitsNode, Keeps, correct}
-use Rattle.sequences.specs.laws.Reaching.{front, remembered, no-start, reached-keeps}
+use Rattle.sequences.specs.laws.Reaching.{remembered, no-start, reached-keeps}
 use Rattle.sequences.specs.laws.Changing.{Changing, reached-changing}
 use Rattle.sequences.specs.laws.NodeTold.{NodeTells, first-tells}
 use Rattle.sequences.specs.laws.SiteTold.{Tells, near-of, ticks-on, happens-so, turns-so, commands-so}

@@ -1,24 +1,26 @@
 -- What `earliest` answers: a stamp is the earliest of those that qualify, and nothing means that none does.
 use Prim.Native.Nat.{ℕ, zero, suc, _+_, _-_, _^_, _≤_, _<_}
 use mathlib.Core.Path.{_≡_, refl, sym, ap, ap₂, _∙_}
-use mathlib.Core.Bool.{Bool, true, false, _&&_, cond, and-eq-true-iff}
+use mathlib.Core.Bool.{Bool, true, false, _&&_, cond, and-eq-true-iff, and-false}
+use mathlib.Core.List.{List, [], _∷_}
+use mathlib.Core.Logic.{_⊎_, inl, inr}
 use native.Mathlib.Nat.{not-suc-le-zero}
 use native.Mathlib.Numerals.{add-one}
 use native.Mathlib.Omega.{arith}
 use lib.Dec.{leb, ltb}
 use lib.ListN.{drop, drop-of-length-le}
 use lib.Seq.{drop-cons}
-use borrow.Author.Tests.{ltb-true, leb-true, lt-ltb, leb-false}
+use borrow.Author.Tests.{ltb-true, leb-true, lt-ltb, le-ltb, le-leb, leb-false}
 use Rattle.time.specs.declared.Dts.{Dts}
 use Rattle.time.specs.Fresh.{window}
-use Rattle.senders.specs.Sets.{countBelow}
-use Rattle.senders.specs.Masks.{isIn, size}
+use Rattle.senders.specs.Masks.{size, enough}
+use Rattle.senders.specs.laws.MaskLaws.{size-none, none-enough}
 use Rattle.tables.specs.Tables.{table, length-table, getD-table}
 use Rattle.store.specs.declared.Store.{Store}
 use Rattle.store.specs.declared.Earliest.the-variants.{Stamp, Nothing}
-use Rattle.store.specs.Store.{stamps, hasPlace, sendersOf}
+use Rattle.store.specs.Store.{actions, stamps, hasPlace, place, setAt, sendersOf}
 use Rattle.store.specs.laws.Places.{bounds}
-use Rattle.store.specs.Earliest.{dts, freshStamp, qualifies, firstOf, earliest}
+use Rattle.store.specs.Earliest.{dts, freshStamp, freshStamps, qualifies, firstOf, earliest}
 
 -- ---- a search of a list that a rule makes, from place i on
 
@@ -28,17 +30,17 @@ module _ (test : ℕ → Bool) (n : ℕ) (rule : ℕ → ℕ) (i : ℕ) where
       ap (firstOf test) (drop-cons (table n rule) i 0 (rw (length-table n rule) h))
       ∙ ap₂ (λ (T j : ℕ). cond (test T) (Stamp (dts T)) (firstOf test (drop j (table n rule)))) (getD-table n rule i 0 h) (sym (add-one i))
 
-  pub found-here : i < n → test (rule i) ≡ true → firstOf test (drop i (table n rule)) ≡ Stamp (dts (rule i))
+  found-here : i < n → test (rule i) ≡ true → firstOf test (drop i (table n rule)) ≡ Stamp (dts (rule i))
   found-here h e = from-here h ∙ ap (λ (b : Bool). cond b (Stamp (dts (rule i))) (firstOf test (drop (i + 1) (table n rule)))) e
 
-  pub found-later : i < n → test (rule i) ≡ false → firstOf test (drop i (table n rule)) ≡ firstOf test (drop (i + 1) (table n rule))
+  found-later : i < n → test (rule i) ≡ false → firstOf test (drop i (table n rule)) ≡ firstOf test (drop (i + 1) (table n rule))
   found-later h e = from-here h ∙ ap (λ (b : Bool). cond b (Stamp (dts (rule i))) (firstOf test (drop (i + 1) (table n rule)))) e
 
   pub found-never : n ≤ i → firstOf test (drop i (table n rule)) ≡ Nothing
   found-never h = ap (firstOf test) (drop-of-length-le (table n rule) {i = i} (rw (length-table n rule) h))
 
 -- a stamp that qualifies is one that 32 bits hold
-pub qualifies-fits : (s : Store) (a : ℕ) (above : Dts) (f T : ℕ) → qualifies s a above f T ≡ true → T < 2 ^ 32
+qualifies-fits : (s : Store) (a : ℕ) (above : Dts) (f T : ℕ) → qualifies s a above f T ≡ true → T < 2 ^ 32
 unfolding qualifies
 qualifies-fits s a above f T e = ltb-true T (2 ^ 32) (and-eq-true-iff (ltb (above .0) T) (ltb T (2 ^ 32)) .0 (and-eq-true-iff _ _ .0 e .0) .1)
 
@@ -79,10 +81,6 @@ search-nothing test (suc n) rule e j l = go (test (rule zero)) refl e (search-no
     go false et e ih (suc j) l = ih e j (omega arith)
 
 -- ---- what the answer says
-
-size-none : size 0 ≡ 0
-unfolding size countBelow isIn
-size-none = refl
 
 -- whoever is held from anybody is fresh
 held-has-place : (s : Store) (a f : ℕ) (T : Dts) → f < size (sendersOf s a T) → hasPlace (s .clock) a T ≡ true
@@ -154,3 +152,38 @@ earliest-ahead s a above f T e =
     let l : r .0 < stamps = r .1 in
     let at : freshStamp (s .clock) (r .0) ≡ T .0 = r .2 in
     omega arith
+
+-- ---- the search as the code makes it: by the places of the array
+
+-- what is no action is held from nobody
+pub no-action : (s : Store) (a : ℕ) (above : Dts) (f : ℕ) → actions ≤ a → earliest s a above f ≡ Nothing
+unfolding earliest qualifies sendersOf hasPlace
+no-action s a above f h = none (freshStamps (s .clock))
+  where
+    none : (l : List ℕ) → firstOf (qualifies s a above f) l ≡ Nothing
+    none [] = refl
+    none (T ∷ Ts) = simp (le-ltb a actions h, none-enough f, and-false) (none Ts)
+
+-- of an action, who is held for a fresh stamp stands at its place
+module _ (s : Store) (a : ℕ) (above : Dts) (f i T : ℕ) (h : a < actions) (l : i < stamps) (e : T ≡ freshStamp (s .clock) i) where
+  senders-there : sendersOf s a (dts T) ≡ setAt s (place a (dts T))
+  unfolding sendersOf hasPlace
+  senders-there = simp (lt-ltb _ _ h, le-leb (s .clock .0 - window) T (omega arith), le-leb T (s .clock .0 + window) (omega arith))
+
+  pub taken : above .0 < T → enough (setAt s (place a (dts T))) f ≡ true → T < 2 ^ 32
+      → firstOf (qualifies s a above f) (drop i (freshStamps (s .clock))) ≡ Stamp (dts T)
+  unfolding qualifies
+  taken b q k = rw e (found-here (qualifies s a above f) stamps (freshStamp (s .clock)) i l (rw e at passes))
+    where
+      passes : qualifies s a above f T ≡ true
+      passes = simp (lt-ltb _ _ b, lt-ltb _ _ k, senders-there, q)
+
+  pub passed-over : (2 ^ 32 ≤ T) ⊎ ((enough (setAt s (place a (dts T))) f ≡ false) ⊎ (T ≤ above .0))
+      → firstOf (qualifies s a above f) (drop i (freshStamps (s .clock))) ≡ firstOf (qualifies s a above f) (drop (i + 1) (freshStamps (s .clock)))
+  unfolding qualifies
+  passed-over w = found-later (qualifies s a above f) stamps (freshStamp (s .clock)) i l (rw e at (fails w))
+    where
+      fails : (2 ^ 32 ≤ T) ⊎ ((enough (setAt s (place a (dts T))) f ≡ false) ⊎ (T ≤ above .0)) → qualifies s a above f T ≡ false
+      fails (inl k) = simp (le-ltb T (2 ^ 32) k, and-false)
+      fails (inr (inl q)) = simp (senders-there, q, and-false)
+      fails (inr (inr b)) = simp (le-ltb (above .0) T b)

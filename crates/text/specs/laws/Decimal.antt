@@ -1,24 +1,22 @@
 -- Laws of what Decimal.antt defines.
-use Prim.Native.Nat.{ℕ, zero, suc, _+_, _*_, _-_, _/_, _%_, _^_, _≤_, _<_}
-use mathlib.Core.Path.{_≡_, refl, sym, ap, subst, _∙_}
+use Prim.Native.Nat.{ℕ, zero, suc, _+_, _*_, _/_, _%_, _^_, _≤_, _<_}
+use mathlib.Core.Path.{_≡_, refl, sym, ap, _∙_}
 use mathlib.Core.Bool.{Bool, true, false, cond}
-use mathlib.Core.List.{List, [], _∷_, _++_}
-use native.Mathlib.Nat.{zero-add, add-comm, suc-add, div-one, div-div-eq-div-mul, pow-suc, mul-comm, div-lt-iff-lt-mul, le-div-iff-mul-le, le-trans, not-suc-le-zero}
+use mathlib.Core.List.{List, [], _∷_, _++_, append-assoc, append-nil}
+use native.Mathlib.Nat.{zero-add, add-zero, add-suc, add-comm, suc-add, div-one, div-div-eq-div-mul, div-add-mod', pow-suc, mul-comm, mul-assoc, div-lt-iff-lt-mul, le-div-iff-mul-le, le-trans, not-suc-le-zero}
 use native.Mathlib.Numerals.{add-one}
 use native.Mathlib.Omega.{arith}
 use lib.Dec.{ltb, lit<}
-use lib.ListN.{length, set, length-append}
-use lib.Seq.{sets, length-sets}
+use lib.ListN.{length, length-append}
 use borrow.Author.Tests.{lt-ltb, le-ltb, ltb-false}
-use Rattle.text.specs.Puts.{set-front}
-use Rattle.text.specs.Decimal.{spelled, placesIn, most, digitCount, decimal, Spelling}
+use Rattle.text.specs.Decimal.{spelled, placesIn, most, digitCount, decimal}
 
 pub length-spelled : (w n : ℕ) → length (spelled w n) ≡ w
 unfolding spelled
 length-spelled zero n = refl
 length-spelled (suc w) n = length-append (spelled w (n / 10)) ((n % 10 + 48) ∷ []) ∙ ap (λ (k : ℕ). k + 1) (length-spelled w (n / 10)) ∙ add-one w
 
-pub places-le : (k n : ℕ) → placesIn k n ≤ k
+places-le : (k n : ℕ) → placesIn k n ≤ k
 unfolding placesIn
 places-le zero n = omega arith
 places-le (suc k) n = go (ltb n 10) (places-le k (n / 10))
@@ -36,7 +34,7 @@ ten-pos zero = omega arith
 ten-pos (suc v) = rw (pow-suc 10 v) (omega (arith, ten-pos v))
 
 -- a number that takes w + 1 digits
-pub places-is : (w k n : ℕ) → w < k → n < 10 ^ suc w → (0 < w → 10 ^ w ≤ n) → placesIn k n ≡ suc w
+places-is : (w k n : ℕ) → w < k → n < 10 ^ suc w → (0 < w → 10 ^ w ≤ n) → placesIn k n ≡ suc w
 unfolding placesIn
 places-is w zero n l h g = absurd (not-suc-le-zero l)
 places-is zero (suc k) n l h g = ap (λ (b : Bool). cond b 1 (suc (placesIn k (n / 10)))) (lt-ltb n 10 h)
@@ -88,110 +86,72 @@ more-room : (d k n : ℕ) → 0 < k → n < 10 ^ k → placesIn (d + k) n ≡ pl
 more-room zero k n h l = ap (λ (i : ℕ). placesIn i n) (zero-add k)
 more-room (suc d) k n h l = ap (λ (i : ℕ). placesIn i n) (suc-add d k) ∙ one-more (d + k) n (omega arith) (wider d k n l) ∙ more-room d k n h l
 
--- of a number of at most 20 digits: 8 and 16 digits more than without the last 8 and 16
-pub places-8 : (n : ℕ) → 10 ^ 8 ≤ n → n / 10 ^ 8 < 10 ^ 12 → digitCount n ≡ digitCount (n / 10 ^ 8) + 8
-places-8 n h l = places-up 8 12 n h ∙ ap (λ (i : ℕ). 8 + i) (sym (more-room 8 12 (n / 10 ^ 8) (lit< tt) l)) ∙ add-comm 8 (digitCount (n / 10 ^ 8))
+-- ---- a number by parts
 
-pub places-16 : (n : ℕ) → 10 ^ 16 ≤ n → n / 10 ^ 16 < 10 ^ 4 → digitCount n ≡ digitCount (n / 10 ^ 16) + 16
-places-16 n h l = places-up 16 4 n h ∙ ap (λ (i : ℕ). 16 + i) (sym (more-room 16 4 (n / 10 ^ 16) (lit< tt) l)) ∙ add-comm 16 (digitCount (n / 10 ^ 16))
-
--- the highest of the last digits first
-spelled-front : (j n : ℕ) → spelled (suc j) n ≡ (n / 10 ^ j % 10 + 48) ∷ spelled j n
+-- a higher part and the last b digits
+spelled-append : (a b n : ℕ) → spelled (a + b) n ≡ spelled a (n / 10 ^ b) ++ spelled b n
 unfolding spelled
-spelled-front zero n = ap (λ (x : ℕ). (x % 10 + 48) ∷ []) (sym (div-one n))
-spelled-front (suc j) n =
-    ap (λ (l : List ℕ). l ++ ((n % 10 + 48) ∷ [])) (spelled-front j (n / 10))
-    ∙ ap (λ (x : ℕ). (x % 10 + 48) ∷ (spelled j (n / 10) ++ ((n % 10 + 48) ∷ []))) (div-div-pow n j)
+spelled-append a zero n = ap (λ (i : ℕ). spelled i n) (add-zero a) ∙ ap (spelled a) (sym (div-one n)) ∙ sym (append-nil (spelled a (n / 1)))
+spelled-append a (suc b) n =
+    ap (λ (i : ℕ). spelled i n) (add-suc a b)
+    ∙ ap (λ (l : List ℕ). l ++ ((n % 10 + 48) ∷ [])) (spelled-append a b (n / 10) ∙ ap (λ (x : ℕ). spelled a x ++ spelled b (n / 10)) (div-div-pow n b))
+    ∙ append-assoc (spelled a (n / 10 ^ suc b)) (spelled b (n / 10)) ((n % 10 + 48) ∷ [])
 
--- one digit more, put in front of the others
-pub spell-more : (l : List ℕ) (at left j n rest : ℕ) → 0 < left → rest ≡ n / 10 ^ j
-    → set (sets l (at + left) (spelled j n)) (at + (left - 1)) (rest % 10 + 48) ≡ sets l (at + (left - 1)) (spelled (suc j) n)
-spell-more l at left j n rest h e =
-    set-front l (spelled j n) (at + (left - 1)) (at + left) (rest % 10 + 48) (omega arith)
-    ∙ ap (λ (k : ℕ). sets (set l (at + (left - 1)) (rest % 10 + 48)) k (spelled j n)) (next at left h)
-    ∙ ap (λ (x : ℕ). sets l (at + (left - 1)) ((x % 10 + 48) ∷ spelled j n)) e
-    ∙ ap (λ (ds : List ℕ). sets l (at + (left - 1)) ds) (sym (spelled-front j n))
-  where
-    next : (at left : ℕ) → 0 < left → at + left ≡ suc (at + (left - 1))
-    next at left h = omega arith
-
--- ---- spelling from the last digit on
-
-pub spelling-begins : (l : List ℕ) (at count n : ℕ) → Spelling l at count n l count n
+-- the last b digits are those of the remainder
+spelled-above : (b q r : ℕ) → spelled b (q * 10 ^ b + r) ≡ spelled b r
 unfolding spelled
-spelling-begins l at count n =
-    let none : count - count ≡ 0 = omega arith in
-    record {
-      within = omega arith;
-      rests = rw none (sym (div-one n));
-      bytes = rw none refl;
-    }
-
-pub spelling-goes-on : (l : List ℕ) (at count n : ℕ) (now : List ℕ) (left rest : ℕ) → 0 < left → Spelling l at count n now left rest
-    → Spelling l at count n (set now (at + (left - 1)) (rest % 10 + 48)) (left - 1) (rest / 10)
-spelling-goes-on l at count n now left rest h s =
-    let more : count - (left - 1) ≡ suc (count - left) = omega (arith, s .within) in
-    record {
-      within = omega (arith, s .within);
-      rests = rw more (ap (λ (x : ℕ). x / 10) (s .rests) ∙ div-pow-div n (count - left));
-      bytes = rw more (ap (λ (m : List ℕ). set m (at + (left - 1)) (rest % 10 + 48)) (s .bytes) ∙ spell-more l at left (count - left) n rest h (s .rests));
-    }
+spelled-above zero q r = refl
+spelled-above (suc b) q r =
+    ap (λ (x : ℕ). spelled (suc b) (x + r)) (ap (λ (x : ℕ). q * x) (pow-suc 10 b) ∙ sym (mul-assoc q (10 ^ b) 10))
+    ∙ ap (λ (x : ℕ). spelled b x ++ (((q * 10 ^ b * 10 + r) % 10 + 48) ∷ [])) (tens (q * 10 ^ b))
+    ∙ ap (λ (x : ℕ). spelled b (q * 10 ^ b + r / 10) ++ ((x + 48) ∷ [])) (ones (q * 10 ^ b))
+    ∙ ap (λ (l : List ℕ). l ++ ((r % 10 + 48) ∷ [])) (spelled-above b q (r / 10))
   where
-    div-pow-div : (n j : ℕ) → n / 10 ^ j / 10 ≡ n / 10 ^ suc j
-    div-pow-div n j = div-div-eq-div-mul n (10 ^ j) 10 ∙ ap (λ (x : ℕ). n / x) (sym (pow-suc 10 j))
+    tens : (x : ℕ) → (x * 10 + r) / 10 ≡ x + r / 10
+    tens x = omega arith
 
--- two digits more
-pub spelling-two : (l : List ℕ) (at count n : ℕ) (now : List ℕ) (left rest : ℕ) → 1 < left → Spelling l at count n now left rest
-    → Spelling l at count n (set (set now (at + (left - 2) + 1) (rest % 100 % 10 + 48)) (at + (left - 2)) (rest % 100 / 10 + 48)) (left - 2) (rest / 100)
-spelling-two l at count n now left rest h s =
-    let once = spelling-goes-on l at count n now left rest (omega arith) s in
-    let twice = spelling-goes-on l at count n _ (left - 1) (rest / 10) (omega arith) once in
-    by-parts _ _ _ _ _ _ _ _ _ _ _ _ (ones-place left h) (tens-place left h) (ones rest) (tens rest) (two-less left) (hundreds rest) twice
+    ones : (x : ℕ) → (x * 10 + r) % 10 ≡ r % 10
+    ones x = omega arith
+
+spelled-rest : (b n : ℕ) → spelled b n ≡ spelled b (n % 10 ^ b)
+spelled-rest b n = ap (spelled b) (sym (div-add-mod' n (10 ^ b))) ∙ spelled-above b (n / 10 ^ b) (n % 10 ^ b)
+
+pub spelled-parts : (a b n : ℕ) → spelled (a + b) n ≡ spelled a (n / 10 ^ b) ++ spelled b (n % 10 ^ b)
+spelled-parts a b n = spelled-append a b n ∙ ap (λ (l : List ℕ). spelled a (n / 10 ^ b) ++ l) (spelled-rest b n)
+
+-- of a number of at most 20 digits, more than b
+pub decimal-parts : (b k n : ℕ) → b + k ≡ most → 0 < k → 10 ^ b ≤ n → n / 10 ^ b < 10 ^ k → decimal n ≡ decimal (n / 10 ^ b) ++ spelled b (n % 10 ^ b)
+unfolding decimal
+decimal-parts b k n e h g l =
+    ap (λ (i : ℕ). spelled i n) count ∙ spelled-parts (digitCount (n / 10 ^ b)) b n
   where
-    by-parts : (i j x y w r k m c d v q : ℕ) → k ≡ i → m ≡ j → c ≡ x → d ≡ y → v ≡ w → q ≡ r → Spelling l at count n (set (set now i (x + 48)) j (y + 48)) w r
-        → Spelling l at count n (set (set now k (c + 48)) m (d + 48)) v q
-    by-parts i j x y w r k m c d v q ei ej ex ey ew er s = rw (ei, ej, ex, ey, ew, er) s
+    high : placesIn k (n / 10 ^ b) ≡ digitCount (n / 10 ^ b)
+    high = sym (more-room b k (n / 10 ^ b) h l) ∙ ap (λ (i : ℕ). placesIn i (n / 10 ^ b)) e
 
-    ones-place : (left : ℕ) → 1 < left → at + (left - 2) + 1 ≡ at + (left - 1)
-    ones-place left h = omega arith
+    count : digitCount n ≡ digitCount (n / 10 ^ b) + b
+    count = ap (λ (i : ℕ). placesIn i n) (sym e) ∙ places-up b k n g ∙ ap (λ (i : ℕ). b + i) high ∙ add-comm b (digitCount (n / 10 ^ b))
 
-    tens-place : (left : ℕ) → 1 < left → at + (left - 2) ≡ at + (left - 1 - 1)
-    tens-place left h = omega arith
+-- a number below 10 ^ k
+pub length-below : (d k n : ℕ) → d + k ≡ most → 0 < k → n < 10 ^ k → length (decimal n) ≤ k
+unfolding decimal
+length-below d k n e h l = rw (length-spelled (digitCount n) n, ← e, more-room d k n h l) (places-le k n)
 
-    two-less : (left : ℕ) → left - 2 ≡ left - 1 - 1
-    two-less left = omega arith
-
-    ones : (rest : ℕ) → rest % 100 % 10 ≡ rest % 10
-    ones rest = omega arith
-
-    tens : (rest : ℕ) → rest % 100 / 10 ≡ rest / 10 % 10
-    tens rest = omega arith
-
-    hundreds : (rest : ℕ) → rest / 100 ≡ rest / 10 / 10
-    hundreds rest = omega arith
-
-pub spelling-ends : (l : List ℕ) (at count n : ℕ) (now : List ℕ) (left rest : ℕ) → left ≤ 0 → Spelling l at count n now left rest → now ≡ sets l at (spelled count n)
-spelling-ends l at count n now left rest h s =
-    let none : left ≡ 0 = omega arith in
-    let all : count - 0 ≡ count = omega arith in
-    let here : at + 0 ≡ at = omega arith in
-    s .bytes ∙ rw (none, all, here) refl
-
-pub spelling-length : (l : List ℕ) (at count n : ℕ) (now : List ℕ) (left rest : ℕ) → Spelling l at count n now left rest → length now ≡ length l
-spelling-length l at count n now left rest s = ap length (s .bytes) ∙ length-sets l (at + left) (spelled (count - left) n)
-
--- the last of an odd number of digits
-pub spelling-last : (l : List ℕ) (at count n : ℕ) (now : List ℕ) (left rest : ℕ) → (left ≡ 0 → ⊥) → left ≤ 1 → Spelling l at count n now left rest
-    → set now at (rest % 10 + 48) ≡ sets l at (spelled count n)
-spelling-last l at count n now left rest some few s =
-    let one : left ≡ 1 = omega (arith, some, few) in
-    let here : at + (left - 1) ≡ at = omega (arith, one) in
-    subst (λ (k : ℕ). set now k (rest % 10 + 48) ≡ sets l at (spelled count n)) here (spelling-ends l at count n _ (left - 1) (rest / 10) (omega (arith, one)) (spelling-goes-on l at count n now left rest (omega (arith, one)) s))
+-- a number of w + 1 digits
+pub decimal-is : (w n : ℕ) → w < most → n < 10 ^ suc w → (0 < w → 10 ^ w ≤ n) → decimal n ≡ spelled (suc w) n
+unfolding decimal
+decimal-is w n l h g = ap (λ (k : ℕ). spelled k n) (places-is w most n l h g)
 
 -- a number of one digit
-pub one-digit : (n : ℕ) → n < 10 → (n + 48) ∷ [] ≡ decimal n
-unfolding decimal spelled
-one-digit n h = sym (ap (λ (k : ℕ). spelled k n) (places-is 0 most n (lit< tt) h (λ p. absurd (not-suc-le-zero p))) ∙ ap (λ (d : ℕ). (d + 48) ∷ []) (small n h))
+pub one-digit : (n : ℕ) → n < 10 → decimal n ≡ (n + 48) ∷ []
+unfolding spelled
+one-digit n h = decimal-is 0 n (lit< tt) h (λ p. absurd (not-suc-le-zero p)) ∙ ap (λ (d : ℕ). (d + 48) ∷ []) (small n h)
   where
     small : (n : ℕ) → n < 10 → n % 10 ≡ n
+    small n h = omega arith
+
+pub two-digits : (n : ℕ) → n < 100 → spelled 2 n ≡ (n / 10 + 48) ∷ (n % 10 + 48) ∷ []
+unfolding spelled
+two-digits n h = ap (λ (d : ℕ). (d + 48) ∷ (n % 10 + 48) ∷ []) (small n h)
+  where
+    small : (n : ℕ) → n < 100 → n / 10 % 10 ≡ n / 10
     small n h = omega arith

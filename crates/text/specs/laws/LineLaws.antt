@@ -1,11 +1,12 @@
 -- How long the parts of a line can be, and how messages are put one after another.
-use Prim.Native.Nat.{ℕ, suc, _+_, _≤_}
-use mathlib.Core.Path.{_≡_, refl, sym, ap, subst, subst₂, _∙_}
+use Prim.Native.Nat.{ℕ, suc, _+_, _-_, _≤_}
+use mathlib.Core.Path.{_≡_, refl, sym, ap, subst, _∙_}
+use mathlib.Core.Bool.{Bool, true, false}
 use mathlib.Core.List.{List, [], _∷_, _++_, map, append-assoc, append-nil}
 use native.Mathlib.Nat.{le-trans}
 use native.Mathlib.Omega.{arith}
-use lib.Dec.{lit≤}
-use borrow.Author.Tests.{le-leb}
+use lib.Dec.{leb, lit≤}
+use borrow.Author.Tests.{leb-true, leb-false, le-leb, lt-leb}
 use lib.ListN.{length, set, length-append}
 use lib.Seq.{sets, set-set}
 use Rattle.pairs.specs.declared.Pair.{Pair}
@@ -15,15 +16,12 @@ use Rattle.pairs.specs.declared.Known.{Known}
 use Rattle.pairs.specs.declared.Known.the-variants.{Yes, No}
 use Rattle.pairs.specs.Pair.{listed, listedKnown}
 use Rattle.site.specs.declared.Site.{Site}
-use Rattle.site.specs.declared.Sent.{Sent}
-use Rattle.site.specs.declared.Answer.{Answer}
-use Rattle.site.specs.declared.Answer.the-variants.{Done, Refused}
-use Rattle.site.specs.Answers.{Message, Share, Command, Ack, numberOf, messagesOf}
+use Rattle.site.specs.Answers.{Message, Share, Command, Ack}
 use Rattle.text.specs.Puts.{Puts, then, set-front}
 use Rattle.text.specs.Decimal.{decimal}
 use Rattle.text.specs.laws.Decimal.{length-decimal}
-use Rattle.text.specs.Line.{pairText, messageText, afterCommas, tailText, shownStatus, shownStamp, lineOf}
-use Rattle.text.specs.Lines.{longestLine, sentMessages, lineText, lineBytes, lineNext}
+use Rattle.text.specs.Line.{pairText, messageText, afterCommas, headWith, tailText, shownStatus, shownStamp, lineWith, lineOf}
+use Rattle.text.specs.Lines.{longestLine, lineBytes, lineNext}
 
 -- nothing put
 pub puts-nothing : (l : List ℕ) (at : ℕ) → Puts l at [] l at
@@ -112,15 +110,6 @@ unfolding afterCommas tailText
 tail-none i [] {l} {l1} {l2} {at} {next} {c} p e q = subst (λ (m : List ℕ). Puts m at (32 ∷ 45 ∷ 10 ∷ []) l2 c) (p .bytes) q
 tail-none i (m ∷ ms) p e q = absurd (omega (arith, p .place))
 
--- an answer's end of the line
-module _ (i : ℕ) (answer : Answer) {l l1 : List ℕ} {at next : ℕ} where
-  pub answer-done : (sent : Sent) → answer ≡ Done sent → Puts l at (tailText i (sentMessages sent)) l1 next → Puts l at (tailText i (messagesOf answer)) l1 next
-  answer-done sent e p = subst (λ (x : Answer). Puts l at (tailText i (messagesOf x)) l1 next) (sym e) p
-
-  pub answer-refused : (number : ℕ) → answer ≡ Refused number → Puts l at (32 ∷ 45 ∷ 10 ∷ []) l1 next → Puts l at (tailText i (messagesOf answer)) l1 next
-  unfolding tailText
-  answer-refused number e p = subst (λ (x : Answer). Puts l at (tailText i (messagesOf x)) l1 next) (sym e) p
-
 -- with messages: the first comma becomes the space
 pub tail-some : (i : ℕ) (ms : List Message) {l l1 l2 l3 : List ℕ} {at next a c : ℕ} → Puts l at (afterCommas i ms) l1 next → (next ≡ at → ⊥)
     → Puts l1 at (32 ∷ []) l2 a → Puts l2 next (10 ∷ []) l3 c → Puts l at (tailText i ms) l3 c
@@ -146,19 +135,45 @@ length-sent i shares commands ack =
     together : (xs ys zs : List ℕ) → length xs ≤ 88 → length ys ≤ 48 → length zs ≤ 24 → length (xs ++ (ys ++ zs)) ≤ 160
     together xs ys zs a b c = omega (arith, length-append xs (ys ++ zs), length-append ys zs)
 
-pub length-head : (number refusal status stamp : ℕ) → length (decimal number ++ (32 ∷ (decimal refusal ++ (32 ∷ status ∷ 32 ∷ decimal stamp)))) ≤ 64
+pub length-head : (number refusal status stamp : ℕ) → length (headWith number refusal status stamp) ≤ 64
 length-head number refusal status stamp =
     omega
     (arith, length-append (decimal number) (32 ∷ (decimal refusal ++ (32 ∷ status ∷ 32 ∷ decimal stamp))), length-append (decimal refusal) (32 ∷ status ∷ 32 ∷ decimal stamp), length-decimal number, length-decimal refusal, length-decimal stamp)
 
+-- the place after a head
+pub after-head : (number refusal status stamp : ℕ) {l l1 : List ℕ} {at next : ℕ} → Puts l at (headWith number refusal status stamp) l1 next → next ≤ at + 64
+after-head number refusal status stamp p = omega (arith, p .place, length-head number refusal status stamp)
+
+-- ---- lines
+
+pub line-shown : (number refusal : ℕ) (site : Site) (i : ℕ) (ms : List Message) → lineOf number refusal site i ms ≡ lineWith number refusal (shownStatus site) (shownStamp site) i ms
+unfolding lineOf lineWith
+line-shown number refusal site i ms = refl
+
+pub no-tail : (i : ℕ) → tailText i [] ≡ 32 ∷ 45 ∷ 10 ∷ []
+unfolding tailText
+no-tail i = refl
+
+-- with nothing sent, whoever acted
+pub no-sender : (number refusal status stamp i : ℕ) → lineWith number refusal status stamp i [] ≡ lineWith number refusal status stamp 0 []
+unfolding lineWith
+no-sender number refusal status stamp i = ap (λ (t : List ℕ). headWith number refusal status stamp ++ t) (no-tail i ∙ sym (no-tail 0))
+
 -- a head and a tail are a line
-pub line-put : (number refusal : ℕ) (site : Site) (i : ℕ) (answer : Answer) (status stamp : ℕ) {l l1 l2 : List ℕ} {at next r : ℕ} → at + longestLine ≤ length l
-    → status ≡ shownStatus site → stamp ≡ shownStamp site → refusal ≡ numberOf answer
-    → Puts l at (decimal number ++ (32 ∷ (decimal refusal ++ (32 ∷ status ∷ 32 ∷ decimal stamp)))) l1 next → Puts l1 next (tailText i (messagesOf answer)) l2 r
-    → (l2 ≡ lineBytes l at (lineText number site i answer)) × (r ≡ lineNext l at (lineText number site i answer))
-unfolding lineOf lineBytes lineNext
-line-put number refusal site i answer status stamp {l} {l1} {l2} {at} {next} {r} h es et er p q =
-    let shown = subst₂ (λ (x y : ℕ). Puts l at (decimal number ++ (32 ∷ (decimal refusal ++ (32 ∷ x ∷ 32 ∷ decimal y)))) l1 next) es et p in
-    let whole = then (subst (λ (x : ℕ). Puts l at (decimal number ++ (32 ∷ (decimal x ++ (32 ∷ shownStatus site ∷ 32 ∷ decimal (shownStamp site))))) l1 next) er shown) q in
-    let room = le-leb (at + longestLine) (length l) h in
-    (simp room (whole .bytes), simp room (whole .place))
+pub line-put : (number refusal status stamp i : ℕ) (ms : List Message) {l l1 l2 : List ℕ} {at next r : ℕ} → leb (at + longestLine) (length l) ≡ true
+    → Puts l at (headWith number refusal status stamp) l1 next → Puts l1 next (tailText i ms) l2 r
+    → (l2 ≡ lineBytes l at (lineWith number refusal status stamp i ms)) × (r ≡ lineNext l at (lineWith number refusal status stamp i ms))
+unfolding lineWith lineBytes lineNext
+line-put number refusal status stamp i ms room p q = let whole = then p q in (simp room (whole .bytes), simp room (whole .place))
+
+-- where there is no room
+pub line-kept : (l : List ℕ) (at : ℕ) (text : List ℕ) → leb (at + longestLine) (length l) ≡ false → (l ≡ lineBytes l at text) × (at ≡ lineNext l at text)
+unfolding lineBytes lineNext
+line-kept l at text full = (simp full, simp full)
+
+pub room-left : (at size : ℕ) → longestLine ≤ size → leb at (size - longestLine) ≡ leb (at + longestLine) size
+room-left at size h = go (leb (at + longestLine) size) refl
+  where
+    go : (b : Bool) → leb (at + longestLine) size ≡ b → leb at (size - longestLine) ≡ leb (at + longestLine) size
+    go true e = le-leb at (size - longestLine) (omega (arith, leb-true (at + longestLine) size e)) ∙ sym e
+    go false e = lt-leb at (size - longestLine) (omega (arith, leb-false (at + longestLine) size e)) ∙ sym e

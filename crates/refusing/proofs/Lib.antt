@@ -1,2 +1,0 @@
--- Steps that a `match` names in its last arm only.
-pub mod Others
