@@ -37,9 +37,9 @@ use Rattle.records.specs.Records.{fieldValues}
 use Rattle.reader.specs.Reading.{openedAs, readAt}
 use Rattle.text.specs.Decimal.{spelled, placesIn, decimal}
 use Rattle.text.specs.Line.{afterCommas, tailText, lineOf}
-use Rattle.run.specs.declared.Next.the-variants.{Halt}
-use Rattle.run.specs.Turns.{firstRun, applied, stepLine, overAfter, malformedLine, nextTurn}
-use Rattle.run.specs.Blocks.{nextIn, advanced, ranOf}
+use Rattle.turns.specs.declared.Next.the-variants.{Halt}
+use Rattle.turns.specs.Turns.{firstRun, applied, stepLine, overAfter, malformedLine, nextTurn}
+use Rattle.turns.specs.Blocks.{nextIn, advanced, ranOf}
 use Rattle.replay.specs.Replay.{dueAt, Whole}
 use Rattle.replay.specs.laws.Taken.{taken, takenIn, ran-prints}
 

@@ -41,7 +41,7 @@ use Rattle.steps.specs.declared.Beginning.{Beginning}
 use Rattle.steps.specs.declared.Event.the-variants.{Report, Deliver, Query}
 use Rattle.steps.specs.declared.Step.{Step}
 use Rattle.steps.specs.declared.Step.the-variants.{Start, Tick, AtNode, AtBreaker}
-use Rattle.run.specs.Turns.{firstRun}
+use Rattle.turns.specs.Turns.{firstRun}
 use Rattle.sequences.specs.History.{Entry, Accepted, Change, accepted, lastStart, changesIn, atNode, runs, deliveries}
 use Rattle.sequences.specs.Told.{toldTo, siteClock, breakerPair, heldThen}
 use Rattle.sequences.specs.Demand.{here, further, Each, SharedEarlier, Rising, Attempts, HeldEnough}

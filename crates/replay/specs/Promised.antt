@@ -10,10 +10,10 @@ use Rattle.steps.specs.declared.Step.{Step}
 use Rattle.steps.specs.declared.Beginning.{Beginning}
 use Rattle.steps.specs.declared.Act.{Act}
 use Rattle.steps.specs.declared.Step.the-variants.{AtBreaker}
-use Rattle.run.specs.declared.Run.{Run}
-use Rattle.run.specs.declared.Ran.{Ran}
-use Rattle.run.specs.Turns.{firstRun}
-use Rattle.run.specs.Blocks.{ranOf, Block}
+use Rattle.turns.specs.declared.Run.{Run}
+use Rattle.turns.specs.declared.Ran.{Ran}
+use Rattle.turns.specs.Turns.{firstRun}
+use Rattle.turns.specs.Blocks.{ranOf, Block}
 use Rattle.sequences.specs.History.{Entry, lastStart}
 use Rattle.sequences.specs.Moments.{Reached, from, Accepts}
 use Rattle.sequences.specs.Demand.{AtMostF, StatusAsTold, SharedByACorrectNode, StampsRise, RunsAsTold, HeldExactly, SendsAtOnce, NoneLeft}

@@ -4,10 +4,10 @@ use mathlib.Core.Path.{_≡_}
 use mathlib.Core.Bool.{Bool, true}
 use mathlib.Core.List.{List, [], _∷_, _++_}
 use Rattle.steps.specs.declared.Step.{Step}
-use Rattle.run.specs.declared.Run.{Run}
-use Rattle.run.specs.declared.Next.{Next}
-use Rattle.run.specs.declared.Next.the-variants.{Halt, Fault, Front, Take}
-use Rattle.run.specs.Turns.{firstRun, applied, stepLine, overAfter, malformedLine, versioned, nextTurn}
+use Rattle.turns.specs.declared.Run.{Run}
+use Rattle.turns.specs.declared.Next.{Next}
+use Rattle.turns.specs.declared.Next.the-variants.{Halt, Fault, Front, Take}
+use Rattle.turns.specs.Turns.{firstRun, applied, stepLine, overAfter, malformedLine, versioned, nextTurn}
 use Rattle.sequences.specs.History.{Entry}
 use Rattle.sequences.specs.Moments.{Moment, entry, afterStep, Reached, then}
 

@@ -16,9 +16,9 @@ use Rattle.lent.specs.Lent.{Said, SaidWithin}
 use Rattle.writer.specs.declared.Written.{Written}
 use Rattle.writer.specs.Writing.{written, bytesAfter}
 use Rattle.text.specs.Lines.{lineBytes, lineNext, lineText}
-use Rattle.run.specs.declared.Run.{Run}
-use Rattle.run.specs.declared.Ran.{Ran}
-use Rattle.run.specs.Blocks.{Block, block-settled}
+use Rattle.turns.specs.declared.Run.{Run}
+use Rattle.turns.specs.declared.Ran.{Ran}
+use Rattle.turns.specs.Blocks.{Block, block-settled}
 
 -- ---- the lent table: `loans::record_at`, `write_at`, `fill`
 

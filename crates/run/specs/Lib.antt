@@ -1,5 +1,3 @@
--- A run over a log: one turn (Turns), a block of turns (Blocks), what the code comes to (RunLaws, RunLoop), why a turn does what it does (WhyTurn), that
--- a block stops only where it has to (Enough), and that its text fits the buffer (Fitting).
-pub mod Turns
-pub mod Blocks
+-- A run over a log: what the functions of its loop promise (Arms), and what each arm leaves (Taken). What a run is said to do stands in `turns`, and the
+-- verdict of 16 that the loop keeps in `starting`.
 pub mod laws

@@ -7,7 +7,7 @@ ghost use mathlib.Core.Bool.{cond, _&&_};
 ghost use lib.ListN.{length};
 ghost use Rattle.senders.specs.Masks.{isIn, joined};
 ghost use Rattle.site.specs.Site.{actorSound};
-ghost use Rattle.run.specs.laws.Judging.{kept, Judging};
+ghost use Rattle.starting.specs.laws.Judging.{kept, Judging};
 
 // How many records a run keeps.
 pub const RECORDS: u8 = 12;

@@ -7,6 +7,8 @@ use node::Node;
 use pairs::Known;
 use pairs::Pairs;
 use store::Store;
+ghost use mathlib.Core.Path.{_≡_};
+ghost use Rattle.site.specs.laws.Answers.{answerOf};
 
 pub const MOST_F: u8 = 4;
 
@@ -46,4 +48,15 @@ pub struct Out {
     pub answer: Answer,
     pub site: Site,
     pub node: Node,
+}
+
+// The answer by its number: with 0 the step is done.
+pub fn answer_by(refusal: u8, sent: Sent) -> Answer
+    ensures { λ out. ⌜ out ≡ answerOf refusal sent ⌝ }
+{
+    if refusal == 0 {
+        Answer::Done(sent)
+    } else {
+        Answer::Refused(refusal)
+    }
 }

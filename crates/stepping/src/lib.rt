@@ -7,10 +7,10 @@ use node::Node;
 use pairs::Known;
 use pairs::Pairs;
 use refusing::is_sound_at;
-use site::Answer;
 use site::Out;
 use site::Sent;
 use site::Site;
+use site::answer_by;
 use site::sound::is_site_sound;
 use steps::Act;
 use steps::Beginning;
@@ -23,7 +23,6 @@ ghost use mathlib.Core.Path.{_≡_};
 ghost use Rattle.site.specs.Answers.{silence};
 ghost use Rattle.effects.specs.Effects.{withMade, withDown, withBreaker};
 ghost use Rattle.stepping.specs.Steps.{stepped};
-ghost use Rattle.stepping.specs.laws.Given.{answerOf};
 
 fn silence() -> Sent
     ensures { λ out. ⌜ out ≡ silence ⌝ }
@@ -32,16 +31,6 @@ fn silence() -> Sent
         shares: Pairs::Zero,
         commands: Pairs::Zero,
         ack: Known::No,
-    }
-}
-
-fn answer(refusal: u8, sent: Sent) -> Answer
-    ensures { λ out. ⌜ out ≡ answerOf refusal sent ⌝ }
-{
-    if refusal == 0 {
-        Answer::Done(sent)
-    } else {
-        Answer::Refused(refusal)
     }
 }
 
@@ -73,7 +62,7 @@ fn start(site: Site, lent: usize, node: Node, beginning: Beginning) -> Out
     ensures { λ out. ⌜ out ≡ stepped site lent node (Step.Start beginning) ⌝ }
 {
     let refusal = refusing::refuse_start(lent, beginning);
-    let answer = crate::answer(refusal, silence());
+    let answer = answer_by(refusal, silence());
     if refusal != 0 {
         return Out { answer, site, node };
     }
@@ -90,7 +79,7 @@ fn tick(site: Site, lent: usize, node: Node) -> Out
 {
     let sound = is_site_sound(site, lent);
     let part = parts::tick(sound, site);
-    let answer = crate::answer(part.refusal, silence());
+    let answer = answer_by(part.refusal, silence());
     let made = part.made;
     let next = with_made(site, made);
     Out {
@@ -112,7 +101,7 @@ fn at_node(site: Site, lent: usize, node: Node, i: u8, t: Dts, event: Event) -> 
         commands,
         ack: Known::No,
     };
-    let answer = crate::answer(part.refusal, sent);
+    let answer = answer_by(part.refusal, sent);
     let made = part.made;
     let next = with_made(site, made);
     let after = part.node;
@@ -128,7 +117,7 @@ fn life(site: Site, lent: usize, node: Node, i: u8, turn: Turn) -> Out
 {
     let sound = is_sound_at(site, lent, node, i);
     let part = parts::life(sound, site, node, i, turn);
-    let answer = crate::answer(part.refusal, silence());
+    let answer = answer_by(part.refusal, silence());
     let next = with_down(site, part.down);
     let after = part.node;
     Out {
@@ -150,7 +139,7 @@ fn at_breaker(site: Site, lent: usize, node: Node, t: Dts, act: Act) -> Out
         commands: Pairs::Zero,
         ack: Known::Yes(pair),
     };
-    let answer = crate::answer(part.refusal, sent);
+    let answer = answer_by(part.refusal, sent);
     let next = with_breaker(site, breaker);
     Out {
         answer,

@@ -6,9 +6,9 @@ use mathlib.Core.List.{List, [], _++_, append-nil, append-assoc}
 use mathlib.Core.Logic.{_⊎_, inl, inr}
 use lib.ListN.{length}
 use Rattle.steps.specs.declared.Step.{Step}
-use Rattle.run.specs.declared.Run.{Run}
-use Rattle.run.specs.declared.Next.the-variants.{Halt}
-use Rattle.run.specs.Turns.{nextTurn}
+use Rattle.turns.specs.declared.Run.{Run}
+use Rattle.turns.specs.declared.Next.the-variants.{Halt}
+use Rattle.turns.specs.Turns.{nextTurn}
 use Rattle.replay.specs.Replay.{dueAt, Whole}
 use Rattle.replay.specs.laws.Taken.{ended-due}
 use Rattle.replay.specs.laws.Cutting.{Came, as-whole, halts-too}

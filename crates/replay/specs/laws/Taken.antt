@@ -7,13 +7,13 @@ use lib.Dec.{leb}
 use lib.ListN.{length}
 use Rattle.steps.specs.declared.Step.{Step}
 use Rattle.text.specs.Lines.{longestLine}
-use Rattle.run.specs.declared.Run.{Run}
-use Rattle.run.specs.declared.Ran.{Ran}
-use Rattle.run.specs.declared.Next.{Next}
-use Rattle.run.specs.declared.Next.the-variants.{Halt, Fault, Front, Take}
-use Rattle.run.specs.Turns.{applied, stepLine, overAfter, malformedLine, versioned, nextTurn, doing}
-use Rattle.run.specs.Blocks.{Advance, onward, nextIn, advanced, turnsFor, ranOf, Block}
-use Rattle.run.specs.laws.RunLaws.{goesOn}
+use Rattle.turns.specs.declared.Run.{Run}
+use Rattle.turns.specs.declared.Ran.{Ran}
+use Rattle.turns.specs.declared.Next.{Next}
+use Rattle.turns.specs.declared.Next.the-variants.{Halt, Fault, Front, Take}
+use Rattle.turns.specs.Turns.{applied, stepLine, overAfter, malformedLine, versioned, nextTurn, doing}
+use Rattle.turns.specs.Blocks.{Advance, onward, nextIn, advanced, turnsFor, ranOf, Block}
+use Rattle.turns.specs.laws.RunLaws.{goesOn}
 use Rattle.replay.specs.Replay.{dueAt, Prints, no-lines, version, malformed, line}
 
 -- A run that has ended has nothing due, and where nothing is due nothing is printed.

@@ -8,13 +8,13 @@ use native.Mathlib.Omega.{arith}
 use lib.ListN.{length, length-append}
 use Rattle.steps.specs.declared.Step.{Step}
 use Rattle.text.specs.Lines.{longestLine}
-use Rattle.run.specs.declared.Run.{Run}
-use Rattle.run.specs.declared.Next.{Next}
-use Rattle.run.specs.declared.Next.the-variants.{Halt, Fault, Front, Take}
-use Rattle.run.specs.Turns.{Go, applied, stepLine, overAfter, malformedLine, versioned, doing}
-use Rattle.run.specs.Blocks.{ranOf}
-use Rattle.run.specs.laws.RunLaws.{goesOn}
-use Rattle.run.specs.laws.Enough.{stops-for}
+use Rattle.turns.specs.declared.Run.{Run}
+use Rattle.turns.specs.declared.Next.{Next}
+use Rattle.turns.specs.declared.Next.the-variants.{Halt, Fault, Front, Take}
+use Rattle.turns.specs.Turns.{Go, applied, stepLine, overAfter, malformedLine, versioned, doing}
+use Rattle.turns.specs.Blocks.{ranOf}
+use Rattle.turns.specs.laws.RunLaws.{goesOn}
+use Rattle.turns.specs.laws.Enough.{stops-for}
 use Rattle.replay.specs.Replay.{dueAt, Prints, no-lines, version, malformed, line}
 use Rattle.replay.specs.laws.Taken.{ended-due, nothing-more, takenIn, ran-prints}
 use Rattle.replay.specs.laws.Leading.{Leads, here, turn}

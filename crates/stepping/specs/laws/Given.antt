@@ -30,6 +30,7 @@ use Rattle.site.specs.declared.Answer.the-variants.{Done, Refused}
 use Rattle.site.specs.declared.Out.{Out}
 use Rattle.site.specs.Site.{siteSound, actorSound}
 use Rattle.site.specs.Answers.{numberOf, silence, refused}
+use Rattle.site.specs.laws.Answers.{answerOf}
 use Rattle.refusing.specs.Tests.{areSound, canBegin, testsOf}
 use Rattle.refusing.specs.laws.Parts.{givenTests, cut-event, cut-turn, cut-act, cut-tick, start-alone}
 use Rattle.effects.specs.Effects.{withMade, withDown, withBreaker, onlyAck, startedSite, madeLater, ticked, act, commanded, turned, effectOf}
@@ -42,9 +43,6 @@ use Rattle.stepping.specs.declared.parts.Lived.{Lived}
 use Rattle.stepping.specs.declared.parts.Told.{Told}
 use Rattle.stepping.specs.Steps.{decided, stepped}
 use Rattle.stepping.specs.laws.StepLaws.{when-refused, when-done}
-
-abbrev pub answerOf : ℕ → Sent → Answer
-answerOf number sent = cond (eqb number 0) (Done sent) (Refused number)
 
 -- a step other than a Start
 unfoldable pub given : Bool → Site → Node → Step → Out

@@ -4,7 +4,7 @@ use mathlib.Core.Path.{_≡_, sym, subst}
 use native.Mathlib.Omega.{arith}
 use lib.ListN.{length}
 use Rattle.events.specs.Events.{wentDown}
-use Rattle.run.specs.laws.Judging.{kept, Judging, any-default, judging-begins, judging-more}
+use Rattle.starting.specs.laws.Judging.{kept, Judging, any-default, judging-begins, judging-more}
 use Rattle.run.proofs.verdict.judge.Statement.{statement}
 use Rattle.run.proofs.verdict.judge.Tie as tie
 use Rattle.run.proofs.verdict.judge.Reads as reads
