@@ -22,7 +22,7 @@ fn ack(phase: Phase, change: Known) -> Changed
 }
 
 // What an event makes of the phase that it finds.
-fn change(breaker: Breaker, phase: Phase, t: Dts, event: Event) -> Changed
+pub fn change(breaker: Breaker, phase: Phase, t: Dts, event: Event) -> Changed
     ensures { λ out. ⌜ out ≡ changedBy breaker phase t event ⌝ }
 {
     match event {

@@ -51,8 +51,8 @@ fn remember(changes: Changes, pair: Pair) -> Changes
     }
 }
 
-// The breaker after a command for the status that it has.
-fn answer(breaker: Breaker, t: Dts) -> Breaker
+// The breaker after it has heard something at its clock t that does not change it, as a command for the status that it has.
+pub fn answer(breaker: Breaker, t: Dts) -> Breaker
     ensures { λ out. ⌜ out ≡ answered breaker t ⌝ }
 {
     let pair = breaker.pair;
@@ -64,8 +64,8 @@ fn answer(breaker: Breaker, t: Dts) -> Breaker
     }
 }
 
-// The breaker after a command for the other status.
-fn change(breaker: Breaker, t: Dts, status: u8, stamp: Dts) -> Breaker
+// The breaker after it has changed to another status, by what is stamped so.
+pub fn change(breaker: Breaker, t: Dts, status: u8, stamp: Dts) -> Breaker
     ensures { λ out. ⌜ out ≡ changed breaker t status stamp ⌝ }
 {
     let pair = Pair {

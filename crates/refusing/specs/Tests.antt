@@ -121,12 +121,11 @@ mayGoDown site kind = not (isKind kind down) || ltb (size (site .down)) (site .k
 abbrev pub mayTick : Site → StepKind → Bool
 mayTick site kind = not (isKind kind tick) || not (eqb (g site .0) lastG)
 
--- The table: 3 is "the acting node (for Deliver, the receiver) is compromised", 4 "the node's phase does not take this step (Down of a down node, Up of
+-- The rows after 16, for what a step names: 3 is "the acting node (for Deliver, the receiver) is compromised", 4 "the node's phase does not take this step (Down of a down node, Up of
 -- another)", 5 "t is neither g nor g+1", 6 "t is below that node's, or the breaker's, last accepted clock since it started", 9 "report not new".
-abbrev pub tableFor : Site → ℕ → Node → Named → List Test
-tableFor site lent node the =
-    (16, areSound site lent node the)
-    ∷ (1, ofNamed (the .beginning) (canBegin lent))
+abbrev pub rowsFor : Site → ℕ → Node → Named → List Test
+rowsFor site lent node the =
+    (1, ofNamed (the .beginning) (canBegin lent))
     ∷ (2, ofNamed (the .actor) (isNode site) && areInRange site (the .said))
     ∷ (3, ofNamed (the .actor) λ i. not (isIn (site .compromised) i))
     ∷ (4, ofNamed (the .actor) λ i. phaseTakes (node .phase) (the .said .kind))
@@ -141,6 +140,10 @@ tableFor site lent node the =
     ∷ (14, mayGoDown site (the .said .kind))
     ∷ (15, mayTick site (the .said .kind))
     ∷ []
+
+-- .. and 16 in front of them
+abbrev pub tableFor : Site → ℕ → Node → Named → List Test
+tableFor site lent node the = (16, areSound site lent node the) ∷ rowsFor site lent node the
 
 -- the tests of a step, for a site, a number of lent records and the record of the acting node
 unfoldable pub testsOf : Site → ℕ → Node → Step → List Test

@@ -39,7 +39,7 @@ struct Asked {
     own: u8,
 }
 
-fn is_now(site: Site, t: Dts) -> bool
+pub fn is_now(site: Site, t: Dts) -> bool
     ensures { λ out. ⌜ out ≡ isNow site t ⌝ }
 {
     let g = site.made.clock.0 as u64;
@@ -47,7 +47,7 @@ fn is_now(site: Site, t: Dts) -> bool
     (t == g) | (t == g + 1)
 }
 
-fn is_node(site: Site, i: u8) -> bool
+pub fn is_node(site: Site, i: u8) -> bool
     ensures { λ out. ⌜ out ≡ isNode site i ⌝ }
 {
     (i as u32) < nodes(site.f, site.k)
@@ -104,7 +104,7 @@ fn when(site: Site, node: Node, t: Dts) -> u8
 }
 
 // Tests 7 and 8 of a share that is delivered.
-fn share(site: Site, t: Dts, sender: u8, status: u8, stamp: Dts) -> u8
+pub fn share(site: Site, t: Dts, sender: u8, status: u8, stamp: Dts) -> u8
     ensures { λ out. ⌜ out ≡ refusal (shareTests site t sender status stamp) ⌝ }
 {
     let fresh = time::is_fresh(stamp, t);

@@ -1,5 +1,5 @@
 -- Document 01's table of refusals: the condition of each row, and the order in which the rows are checked.
--- `Of (named step .clock) λ t. C` reads "the step names a clock t, and C", `OneOf` the same of one of some. `×` is "and", `⊎` is "or", `→ ⊥` is "not".
+-- `Of (the .clock) λ t. C` reads "the step names a clock t, and C", `OneOf` the same of one of some. `×` is "and", `⊎` is "or", `→ ⊥` is "not".
 use Prim.Native.Nat.{ℕ, _+_, _≤_, _<_}
 use mathlib.Core.Path.{_≡_}
 use mathlib.Core.Bool.{true, false}
@@ -16,8 +16,7 @@ use Rattle.pairs.specs.declared.Pair.{Pair}
 use Rattle.pairs.specs.declared.Known.{Known}
 use Rattle.pairs.specs.declared.Known.the-variants.{Yes, No}
 use Rattle.steps.specs.declared.Beginning.{Beginning}
-use Rattle.steps.specs.declared.Step.{Step}
-use Rattle.steps.specs.Named.{tick, shareTimeout, resendTimeout, command, down, Said, named, Of, OneOf}
+use Rattle.steps.specs.Named.{tick, shareTimeout, resendTimeout, command, down, Said, Named, Of, OneOf}
 use Rattle.node.specs.declared.Last.{Last}
 use Rattle.node.specs.declared.Last.the-variants.{Number, Unknown}
 use Rattle.node.specs.declared.Resend.{Resend}
@@ -92,17 +91,17 @@ NoStampResent NotUp = Unit {0}
 NoStampResent (Starting l) = Unit {0}
 NoStampResent (Running rec) = rec .resend ≡ Off
 
--- for a site, the number of records that are lent, the record of the acting node, and a step
-module _ (site : Site) (lent : ℕ) (node : Node) (step : Step) where
+-- for a site, the number of records that are lent, the record of the acting node, and what a step names
+module _ (site : Site) (lent : ℕ) (node : Node) (the : Named) where
   -- what it says beside its node, its clock and what Start gives
   abbrev said : Said
-  said = named step .said
+  said = the .said
 
   -- 1: "Start: f, k, status or g out of range, a compromised number not below n, more than f compromised, table shorter than n". (The row's other
   -- half, a bad interval, is discretising's.)
   abbrev pub StartOutOfRange : Type 0
   StartOutOfRange =
-      Of (named step .beginning) λ b.
+      Of (the .beginning) λ b.
       (4 < b .f)
       ⊎ (3 < b .k)
       ⊎ (1 < b .status)
@@ -115,30 +114,30 @@ module _ (site : Site) (lent : ℕ) (node : Node) (step : Step) where
   -- 2: "node or sender ≥ n, status above 1, back above 7"
   abbrev pub OutsideItsRange : Type 0
   OutsideItsRange =
-      Of (named step .actor) (λ i. n site ≤ i)
+      Of (the .actor) (λ i. n site ≤ i)
       ⊎ Of (said .sender) (λ i. n site ≤ i)
       ⊎ Of (said .status) (λ A. 1 < A)
       ⊎ Of (said .back) (λ back. 7 < back)
 
   -- 3: "the acting node (for Deliver, the receiver) is compromised"
   abbrev pub ActorCompromised : Type 0
-  ActorCompromised = Of (named step .actor) λ i. isIn (site .compromised) i ≡ true
+  ActorCompromised = Of (the .actor) λ i. isIn (site .compromised) i ≡ true
 
   -- 4: "the node's phase does not take this step (Down of a down node, Up of another)"
   abbrev pub PhaseDoesNotTake : Type 0
-  PhaseDoesNotTake = Of (named step .actor) λ i. phaseTakes (node .phase) (said .kind) ≡ false
+  PhaseDoesNotTake = Of (the .actor) λ i. phaseTakes (node .phase) (said .kind) ≡ false
 
   -- 5: "t is neither g nor g+1"
   abbrev pub NeitherNowNorNext : Type 0
-  NeitherNowNorNext = Of (named step .clock) λ t. (t .0 ≡ g site .0 → ⊥) × (t .0 ≡ g site .0 + 1 → ⊥)
+  NeitherNowNorNext = Of (the .clock) λ t. (t .0 ≡ g site .0 → ⊥) × (t .0 ≡ g site .0 + 1 → ⊥)
 
   -- 6: "t is below that node's, or the breaker's, last accepted clock since it started"
   abbrev pub BelowLastClock : Type 0
-  BelowLastClock = Of (named step .clock) λ t. t .0 < lastClock site node (named step .actor) .0
+  BelowLastClock = Of (the .clock) λ t. t .0 < lastClock site node (the .actor) .0
 
   -- 7: "T not fresh at t"
   abbrev pub NotFresh : Type 0
-  NotFresh = Of (named step .clock) λ t. OneOf (said .stamps) λ T. (T .0 + 2 < t .0) ⊎ (t .0 + 2 < T .0)
+  NotFresh = Of (the .clock) λ t. OneOf (said .stamps) λ T. (T .0 + 2 < t .0) ⊎ (t .0 + 2 < T .0)
 
   -- 8: "share not made by its correct sender; for Command, verdict no"
   abbrev pub ShareNotMade : Type 0
@@ -204,18 +203,17 @@ module _ (site : Site) (lent : ℕ) (node : Node) (step : Step) where
   -- below n"
   abbrev pub RecordOutOfRange : Type 0
   RecordOutOfRange =
-      Of (named step .actor) λ i.
+      Of (the .actor) λ i.
       (i < n site) × (ClockTooLate (nodeClock node) ⊎ SenderOutside (node .store) (n site) ⊎ PhaseTooLate (node .phase))
 
   -- "any step but Start"
   abbrev pub SiteOrRecordOutOfRange : Type 0
-  SiteOrRecordOutOfRange = NoStart (named step .beginning) × (SiteOutOfRange ⊎ RecordOutOfRange)
+  SiteOrRecordOutOfRange = NoStart (the .beginning) × (SiteOutOfRange ⊎ RecordOutOfRange)
 
-  -- "Checks run in this order: 17, 16, then 1 for Start, then 2 to 15." (17 is the log's.)
-  abbrev pub refusalTable : List Row
-  refusalTable =
-      (16, SiteOrRecordOutOfRange)
-      ∷ (1, StartOutOfRange)
+  -- "Checks run in this order: 17, 16, then 1 for Start, then 2 to 15." (17 is the log's.) The rows after 16
+  abbrev pub laterRows : List Row
+  laterRows =
+      (1, StartOutOfRange)
       ∷ (2, OutsideItsRange)
       ∷ (3, ActorCompromised)
       ∷ (4, PhaseDoesNotTake)
@@ -230,3 +228,6 @@ module _ (site : Site) (lent : ℕ) (node : Node) (step : Step) where
       ∷ (14, EnoughDown)
       ∷ (15, TickAtTheLast)
       ∷ []
+
+  abbrev pub refusalTable : List Row
+  refusalTable = (16, SiteOrRecordOutOfRange) ∷ laterRows

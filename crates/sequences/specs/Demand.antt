@@ -28,6 +28,7 @@ use Rattle.steps.specs.declared.Step.{Step}
 use Rattle.steps.specs.declared.Step.the-variants.{Start, Tick, AtNode, Life, AtBreaker}
 use Rattle.steps.specs.Named.{resendTimeout, saidBy, named, Of}
 use Rattle.site.specs.Site.{nodes}
+pub use Rattle.history.specs.Sequences.{Earlier, here, further, Each, EachStep}
 use Rattle.sequences.specs.History.{Entry, Accepted, Change, lastStart, accepted, isCompromised, breakerStatus, changesIn, isAt, atNode, lastReport, clock, runs, deliveries, freshAtClock}
 use Rattle.sequences.specs.Told.{toldTo, rThen, bThen, heldThen}
 use Rattle.sequences.specs.Moments.{Moment, Reached, nodeAt, holds}
@@ -35,21 +36,6 @@ use Rattle.sequences.specs.Moments.{Moment, Reached, nodeAt, holds}
 -- a correct node, for what the last Start gave and the steps accepted since
 abbrev pub Correct : Beginning → List Accepted → ℕ → Type 0
 Correct b steps i = (i < nodes (b .f) (b .k)) × (isCompromised b steps i ≡ false)
-
--- one of some accepted steps, with those before it, is as P says
-pub data Earlier (P : Accepted → List Accepted → Type 0) : List Accepted → Type 0 where
-  here : {a : Accepted} {before : List Accepted} → P a before → Earlier P (a ∷ before)
-  further : {a : Accepted} {before : List Accepted} → Earlier P before → Earlier P (a ∷ before)
-
--- each of a list is as P says
-abbrev pub Each : {A : Type 0} → (A → Type 0) → List A → Type 0
-Each P [] = Unit {0}
-Each P (a ∷ rest) = P a × Each P rest
-
--- each accepted step, with those before it, is as P says
-abbrev pub EachStep : (Accepted → List Accepted → Type 0) → List Accepted → Type 0
-EachStep P [] = Unit {0}
-EachStep P (a ∷ before) = P a before × EachStep P before
 
 -- a command with this action and stamp is being resent: b's status, and the stamp being resent
 abbrev pub IsResent : Resend → Known → ℕ → Dts → Type 0

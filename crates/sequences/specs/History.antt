@@ -1,10 +1,9 @@
 -- What has happened, told by the steps and their answers alone: no field of a site or of a record is looked at. Every list has the latest first.
-use Prim.Native.Nat.{ℕ, suc}
+use Prim.Native.Nat.{ℕ}
 use mathlib.Core.Bool.{Bool, false, _&&_, _||_, cond}
 use mathlib.Core.List.{List, [], _∷_, _++_}
 use mathlib.Core.Option.{Option, none, some}
 use lib.Dec.{eqb}
-use lib.ListN.{length}
 use Rattle.time.specs.declared.Dts.{Dts}
 use Rattle.time.specs.Fresh.{fresh}
 use Rattle.senders.specs.Masks.{isIn}
@@ -16,52 +15,26 @@ use Rattle.steps.specs.declared.Beginning.{Beginning}
 use Rattle.steps.specs.declared.Step.{Step}
 use Rattle.steps.specs.declared.Step.the-variants.{Start, Tick, AtNode, Life, AtBreaker}
 use Rattle.steps.specs.Named.{StepKind, report, ack, query, down, up, saidByTurn, named, isKind, among}
-use Rattle.site.specs.declared.Sent.{Sent}
-use Rattle.site.specs.declared.Answer.{Answer}
-use Rattle.site.specs.declared.Answer.the-variants.{Done, Refused}
+use Rattle.history.specs.History as Of
+use Rattle.history.specs.History.{those}
+pub use Rattle.history.specs.History.{nextNumber}
 
--- a step with its answer
-pub record Entry : Type 0 where
-  pub step : Step
-  pub answer : Answer
+-- What is the same for any kind of site stands in crates/history; here it is of this site's steps: a step with its answer, an accepted step with its number and
+-- what was sent in it, what the last accepted Start gave, and the steps accepted since
+abbrev pub Entry : Type 0
+Entry = Of.Entry Step
 
--- Steps are numbered from 1, refused ones too: the number of the step after those of a history
-abbrev pub nextNumber : List Entry → ℕ
-nextNumber h = suc (length h)
+abbrev pub Accepted : Type 0
+Accepted = Of.Accepted Step
 
--- an accepted step with its number, and what was sent in it
-pub record Accepted : Type 0 where
-  pub number : ℕ
-  pub step : Step
-  pub sent : Sent
+abbrev pub lastStart : List Entry → Option Beginning
+lastStart = Of.lastStart named
+
+abbrev pub accepted : List Entry → List Accepted
+accepted = Of.accepted named
 
 abbrev pub stepKind : Accepted → StepKind
-stepKind a = named (a .step) .said .kind
-
--- ---- since the last accepted Start
-
-abbrev startedBy : Answer → Option Beginning → Option Beginning → Option Beginning
-startedBy (Done sent) (some b) before = some b
-startedBy (Done sent) none before = before
-startedBy (Refused number) b before = before
-
--- what the last accepted Start gave, if there was one
-abbrev pub lastStart : List Entry → Option Beginning
-lastStart [] = none
-lastStart (e ∷ h) = startedBy (e .answer) (named (e .step) .beginning) (lastStart h)
-
-abbrev onward : Option Beginning → Accepted → List Accepted → List Accepted
-onward (some b) a before = []
-onward none a before = a ∷ before
-
-abbrev tellTo : Answer → ℕ → Step → List Accepted → List Accepted
-tellTo (Done sent) number step before = onward (named step .beginning) (record { number = number; step = step; sent = sent }) before
-tellTo (Refused refusal) number step before = before
-
--- the accepted steps since then
-abbrev pub accepted : List Entry → List Accepted
-accepted [] = []
-accepted (e ∷ h) = tellTo (e .answer) (nextNumber h) (e .step) (accepted h)
+stepKind = Of.stepKind named
 
 -- who is compromised, for what the last Start gave and the steps accepted since: "a fixed set", the Start's
 abbrev pub isCompromised : Beginning → List Accepted → ℕ → Bool
@@ -110,13 +83,9 @@ changesIn first (a ∷ before) = changeBy (a .step) a (breakerStatus first befor
 
 -- ---- at one node
 
-abbrev isNamed : ℕ → Option ℕ → Bool
-isNamed j none = false
-isNamed j (some i) = eqb i j
-
 -- the step is at node j: for Deliver, j is the receiver
 abbrev pub isAt : ℕ → Accepted → Bool
-isAt j a = isNamed j (named (a .step) .actor)
+isAt = Of.isAt named
 
 -- the step concerns node j: it is at j
 abbrev pub concerns : ℕ → Accepted → Bool
@@ -124,15 +93,13 @@ concerns j a = isAt j a
 
 -- those that concern node j
 abbrev pub atNode : ℕ → List Accepted → List Accepted
-atNode j [] = []
-atNode j (a ∷ rest) = cond (concerns j a) (a ∷ atNode j rest) (atNode j rest)
+atNode j steps = those (concerns j) steps
 
 -- The rest is of a list of the accepted steps that concern one node.
 
 -- "its relay's last accepted report": the status
 abbrev pub lastReport : List Accepted → Option ℕ
-lastReport [] = none
-lastReport (a ∷ rest) = cond (isKind (stepKind a) report) (named (a .step) .said .status) (lastReport rest)
+lastReport = Of.lastReport named
 
 abbrev latestOf : Option Dts → Option Dts → Option Dts
 latestOf (some t) before = some t

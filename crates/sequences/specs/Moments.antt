@@ -2,7 +2,7 @@
 use Prim.Native.Nat.{ℕ}
 use mathlib.Core.Path.{_≡_}
 use mathlib.Core.Bool.{Bool, true}
-use mathlib.Core.List.{List, [], _∷_}
+use mathlib.Core.List.{List}
 use lib.ListN.{getD}
 use Rattle.time.specs.declared.Dts.{Dts}
 use Rattle.store.specs.Held.{held}
@@ -13,6 +13,8 @@ use Rattle.site.specs.declared.Site.{Site}
 use Rattle.site.specs.declared.Answer.{Answer}
 use Rattle.lent.specs.Lent.{outOf, tableAfter}
 use Rattle.site.specs.Answers.{isDone}
+use Rattle.history.specs.Sequences as Of
+pub use Rattle.history.specs.Sequences.{from, then}
 use Rattle.sequences.specs.History.{Entry}
 
 pub record Moment : Type 0 where
@@ -29,9 +31,8 @@ abbrev pub entry : Moment → Step → Entry
 entry m step = record { step = step; answer = answerTo m step }
 
 -- From a first moment a history leads to another: by any steps, accepted and refused, of every kind.
-pub data Reached (first : Moment) : List Entry → Moment → Type 0 where
-  from : Reached first [] first
-  then : {h : List Entry} {m : Moment} → Reached first h m → (step : Step) → Reached first (entry m step ∷ h) (afterStep m step)
+abbrev pub Reached : Moment → List Entry → Moment → Type 0
+Reached = Of.Reached answerTo afterStep
 
 -- the step is accepted at this moment
 abbrev pub Accepts : Moment → Step → Type 0

@@ -15,7 +15,7 @@ ghost use Rattle.pairs.specs.Pair.{listed, listedKnown};
 ghost use Rattle.site.specs.Answers.{Message};
 ghost use Rattle.text.specs.Puts.{Puts};
 ghost use Rattle.text.specs.Decimal.{decimal};
-ghost use Rattle.text.specs.Line.{letter, pairText, afterCommas, headWith, tailText, lineWith, shownStatus, shownStamp};
+ghost use Rattle.text.specs.Line.{letter, pairText, afterCommas, headWith, tailText, lineWith, messageTail, messageLine, shownStatus, shownStamp};
 ghost use Rattle.text.specs.Lines.{longestLine, sentMessages, lineBytes, lineNext};
 
 // Room for this many bytes is asked for before a line: no line is longer.
@@ -218,6 +218,37 @@ pub fn put_loud(
     if has_room(out.len(), at) {
         let space = put_head(out, at, number, 0, status, stamp);
         return put_tail(out, space, i, sent);
+    }
+    at
+}
+
+// A space, a message of node i, and the line's end.
+fn put_vote(out: &mut [u8], at: usize, i: u8, pair: Pair) -> usize
+    requires { ⌜ at + 46 ≤ length (now out) ⌝ }
+    ensures { λ r. ⌜ Puts (now (out .entry)) at (messageTail i pair) (now (out .exit)) r ⌝ }
+{
+    let a = put_byte(out, at, b' ');
+    let b = put_byte(out, a, b'M');
+    let c = put_number(out, b, i as u64);
+    let d = put_stamped(out, c, pair);
+    put_byte(out, d, b'\n')
+}
+
+// The same for a step of an Arbiter site that was done and sent the breaker a message.
+pub fn put_message(
+    out: &mut [u8],
+    at: usize,
+    number: u64,
+    status: u8,
+    stamp: u32,
+    i: u8,
+    pair: Pair,
+) -> usize
+    ensures { λ r. ⌜ (now (out .exit) ≡ lineBytes (now (out .entry)) at (messageLine number status stamp i pair)) × (r ≡ lineNext (now (out .entry)) at (messageLine number status stamp i pair)) ⌝ }
+{
+    if has_room(out.len(), at) {
+        let space = put_head(out, at, number, 0, status, stamp);
+        return put_vote(out, space, i, pair);
     }
     at
 }

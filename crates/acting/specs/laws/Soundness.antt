@@ -46,7 +46,7 @@ acked-sound p (Yes change) e s = ack-sound p change (e change refl) s
 acked-sound p No e s = s
 
 -- what each event leaves of a phase, one clause an event: a new stamp is the event's clock or comes from the breaker
-sound-by : (breaker : Breaker) (p : Phase) (t : Dts) (event : Event) → breakerSound breaker ≡ true → t .0 ≤ lastHeldStamp → SoundPhase p
+pub sound-by : (breaker : Breaker) (p : Phase) (t : Dts) (event : Event) → breakerSound breaker ≡ true → t .0 ≤ lastHeldStamp → SoundPhase p
     → SoundPhase (changedBy breaker p t event .phase)
 unfolding changedBy
 sound-by breaker p t (Report status number) of-breaker l s = report-sound p t status number l s

@@ -98,18 +98,29 @@ pub record Placed (site : Site) (lent i : ℕ) : Type 0 where
   pub room-for-node : (k : ℕ) → isNode site k ≡ true → k < room
   pub is-correct : isIn (site .compromised) i ≡ false
 
+-- a mask has room for each of its nodes
+pub room-for : (site : Site) (lent : ℕ) → SoundSite site lent → (k : ℕ) → k < n site → k < room
+room-for site lent whole k below =
+    let most-f = whole .most-f in
+    let most-k = whole .most-k in
+    omega arith
+
 placed : (site : Site) (lent : ℕ) (node : Node) (i : ℕ) (fields : Bool) → (siteSound site lent && actorSound site node i) ≡ true → (isNode site i && fields) ≡ true
     → not (isIn (site .compromised) i) ≡ true → Placed site lent i
 placed site lent node i fields a b c =
     let whole = sound site lent (left _ _ a) in
     let below : i < n site = ltb-true _ _ (left _ _ b) in
     let lends = whole .lends in
-    let most-f = whole .most-f in
-    let most-k = whole .most-k in
-    let room-for : ((k : ℕ) → k < n site → k < room) = λ k z. omega arith in
-    record { whole = whole; is-node = below; is-lent = omega arith; has-room = omega arith; room-for-node = λ k e. room-for k (ltb-true _ _ e); is-correct = not-true _ c }
+    record {
+      whole = whole;
+      is-node = below;
+      is-lent = omega arith;
+      has-room = room-for site lent whole i below;
+      room-for-node = λ k e. room-for site lent whole k (ltb-true _ _ e);
+      is-correct = not-true _ c;
+    }
 
-timely : (site : Site) (t : Dts) → g site .0 ≤ lastG → isNow site t ≡ true → t .0 ≤ latestClock
+pub timely : (site : Site) (t : Dts) → g site .0 ≤ lastG → isNow site t ≡ true → t .0 ≤ latestClock
 timely site t last b = go (eqb (t .0) (g site .0)) refl b
   where
     go : (x : Bool) → eqb (t .0) (g site .0) ≡ x → (x || eqb (t .0) (g site .0 + 1)) ≡ true → t .0 ≤ latestClock

@@ -1,7 +1,7 @@
 -- What the functions inside this crate promise: the table, cut as the code goes through it.
 use Prim.Native.Nat.{ℕ, _+_}
-use mathlib.Core.Path.{_≡_, refl, sym, ap, _∙_}
-use mathlib.Core.Bool.{Bool, true, false, not, _&&_, _||_, false≢true}
+use mathlib.Core.Path.{_≡_, refl, sym, ap, ap₂, _∙_}
+use mathlib.Core.Bool.{Bool, true, false, not, _&&_, _||_, cond, false≢true}
 use mathlib.Core.List.{List, [], _∷_, _++_}
 use lib.Dec.{eqb, leb, ltb}
 use Rattle.refusals.specs.Tests.{Test, refusal}
@@ -26,7 +26,7 @@ use Rattle.node.specs.Asked.{phaseDown, isDown, isStarting, isRunning, isNew, i
 use Rattle.breaker.specs.Breaker.{repeats}
 use Rattle.site.specs.declared.Site.{Site}
 use Rattle.site.specs.Site.{g, lastG}
-use Rattle.refusing.specs.Tests.{isNow, isNode, isStatus, verdict, canDeliver, phaseTakes, nodeClock, areSound, canBegin, areInRange, testsOf}
+use Rattle.refusing.specs.Tests.{isNow, isNode, isStatus, verdict, canDeliver, phaseTakes, nodeClock, areSound, canBegin, areInRange, rowsFor, testsOf}
 
 -- 2, 3 and 4 of a step at a node
 abbrev pub whoTests : Site → ℕ → Bool → Bool → List Test
@@ -137,36 +137,60 @@ not-down NotUp event e = absurd (false≢true (sym (no-up event) ∙ e))
 not-down (Starting learned) event e = refl
 not-down (Running rec) event e = refl
 
--- ---- that the cut gives the table's refusal, where the verdict is the table's
+-- ---- that the cut gives the table's refusal
 
+-- after 16, whatever its verdict is
+module _ (site : Site) (lent : ℕ) (node : Node) where
+  abbrev pub Rest : Step → Type 0
+  Rest step = refusal (soundTests site node step) ≡ refusal (rowsFor site lent node (named step))
+
+  pub rest-event : (i : ℕ) (t : Dts) (event : Event) → Rest (AtNode i t event)
+  unfolding refusal
+  rest-event i t (Report status number) = simp and-true
+  rest-event i t (Deliver sender status T) = simp and-true
+  rest-event i t ShareTimeout = simp and-true
+  rest-event i t ResendTimeout = simp and-true
+  rest-event i t (Ack back) = refl
+  rest-event i t Query = simp and-true
+
+  pub rest-turn : (i : ℕ) (turn : Turn) → Rest (Life i turn)
+  unfolding refusal
+  rest-turn i Down = simp and-true
+  rest-turn i Up = simp and-true
+
+  pub rest-act : (t : Dts) (act : Act) → Rest (AtBreaker t act)
+  unfolding refusal
+  rest-act t act = simp and-true
+
+  pub rest-tick : Rest Tick
+  unfolding refusal
+  rest-tick = refl
+
+-- 16 in front of tests that refuse alike, with its verdict in another form
+pub sixteen-first : (sound verdict : Bool) (ts us : List Test) → sound ≡ verdict → refusal ts ≡ refusal us → refusal ((16, sound) ∷ ts) ≡ refusal ((16, verdict) ∷ us)
+unfolding refusal
+sixteen-first sound verdict ts us is e = ap₂ (λ (x : Bool) (k : ℕ). cond x k 16) is e
+
+-- so with the table's verdict it is the table's
 module _ (site : Site) (lent : ℕ) (node : Node) where
   abbrev Cut : Step → Type 0
   Cut step = (sound : Bool) → sound ≡ areSound site lent node (named step) → refusal (givenTests sound site node step) ≡ refusal (testsOf site lent node step)
 
-  cut-by : (step : Step) → refusal (givenTests (areSound site lent node (named step)) site node step) ≡ refusal (testsOf site lent node step) → Cut step
-  cut-by step e sound is = ap (λ (verdict : Bool). refusal (givenTests verdict site node step)) is ∙ e
+  cut-by : (step : Step) → Rest site lent node step → Cut step
+  unfolding testsOf
+  cut-by step e sound is = sixteen-first sound _ (soundTests site node step) _ is e
 
   pub cut-event : (i : ℕ) (t : Dts) (event : Event) → Cut (AtNode i t event)
-  unfolding testsOf refusal
-  cut-event i t (Report status number) = cut-by (AtNode i t (Report status number)) (simp and-true)
-  cut-event i t (Deliver sender status T) = cut-by (AtNode i t (Deliver sender status T)) (simp and-true)
-  cut-event i t ShareTimeout = cut-by (AtNode i t ShareTimeout) (simp and-true)
-  cut-event i t ResendTimeout = cut-by (AtNode i t ResendTimeout) (simp and-true)
-  cut-event i t (Ack back) = cut-by (AtNode i t (Ack back)) refl
-  cut-event i t Query = cut-by (AtNode i t Query) (simp and-true)
+  cut-event i t event = cut-by (AtNode i t event) (rest-event site lent node i t event)
 
   pub cut-turn : (i : ℕ) (turn : Turn) → Cut (Life i turn)
-  unfolding testsOf refusal
-  cut-turn i Down = cut-by (Life i Down) (simp and-true)
-  cut-turn i Up = cut-by (Life i Up) (simp and-true)
+  cut-turn i turn = cut-by (Life i turn) (rest-turn site lent node i turn)
 
   pub cut-act : (t : Dts) (act : Act) → Cut (AtBreaker t act)
-  unfolding testsOf refusal
-  cut-act t act = cut-by (AtBreaker t act) (simp and-true)
+  cut-act t act = cut-by (AtBreaker t act) (rest-act site lent node t act)
 
   pub cut-tick : Cut Tick
-  unfolding testsOf refusal
-  cut-tick = cut-by Tick (simp and-true)
+  cut-tick = cut-by Tick (rest-tick site lent node)
 
 -- a Start has row 1 alone
 pub start-alone : (site : Site) (lent : ℕ) (node : Node) (b : Beginning) → refusal ((1, canBegin lent b) ∷ []) ≡ refusal (testsOf site lent node (Start b))

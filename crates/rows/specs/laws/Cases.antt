@@ -15,25 +15,25 @@ use Rattle.store.specs.Store.{storeWithin}
 use Rattle.store.specs.Held.{held}
 use Rattle.steps.specs.declared.Beginning.{Beginning}
 use Rattle.steps.specs.declared.Step.{Step}
-use Rattle.steps.specs.Named.{tick, shareTimeout, resendTimeout, command, down, named}
+use Rattle.steps.specs.Named.{tick, shareTimeout, resendTimeout, command, down, Named, named}
 use Rattle.node.specs.declared.Node.{Node}
 use Rattle.node.specs.Asked.{nodeSound}
 use Rattle.breaker.specs.Breaker.{changesSound, breakerSound}
 use Rattle.site.specs.declared.Site.{Site}
 use Rattle.site.specs.Site.{nodes, n, g, mostF, mostK, firstG, lastStartG, lastG, setsSound, siteSound, actorSound}
-use Rattle.refusing.specs.Tests.{counted, phaseTakes, lastClock, canBegin, tableFor, testsOf}
+use Rattle.refusing.specs.Tests.{counted, phaseTakes, lastClock, canBegin, rowsFor, tableFor, testsOf}
 use Rattle.rows.specs.Exactly.{Condition, NoneBefore, None, Tells, Tell, no-rows, also}
 use Rattle.rows.specs.laws.Exactly.{exactly, exactly-done, at-most, met}
 use Rattle.rows.specs.Outsiders.{Outsider}
 use Rattle.rows.specs.laws.Outsiders.{outsider}
 use Rattle.rows.specs.laws.Answered.{answeredWith, answered-is}
-use Rattle.rows.specs.Conditions.{SiteOutOfRange, refusalTable}
+use Rattle.rows.specs.Conditions.{SiteOutOfRange, laterRows, refusalTable}
 use Rattle.rows.specs.laws.Telling.{itself, above, from, other, negated, equal, _or_, _and_, spelled, worded, of-named, of-each, kind-is, no-start}
 use Rattle.rows.specs.laws.Ranges.{store-tells, pair-tells, changes-tell, node-tells, new-tells, in-attempt-tells, armed-tells}
 
-site-tells : (site : Site) (lent : ℕ) (node : Node) (step : Step) → Tells (siteSound site lent) (SiteOutOfRange site lent node step)
+pub site-tells : (site : Site) (lent : ℕ) (node : Node) (the : Named) → Tells (siteSound site lent) (SiteOutOfRange site lent node the)
 unfolding siteSound setsSound breakerSound
-site-tells site lent node step =
+site-tells site lent node the =
     spelled spelling
     (itself (site .started)
     or above (n site) lent
@@ -64,7 +64,7 @@ site-tells site lent node step =
         && (clockSound (site .breaker .clock) && changesSound (site .breaker .changes)))))))))))))
     spelling = simp and-assoc
 
-actor-tells : (site : Site) (node : Node) (i : ℕ) {C : Type 0} → Tells (nodeSound node (n site)) C → Tells (actorSound site node i) ((i < n site) × C)
+pub actor-tells : (site : Site) (node : Node) (i : ℕ) {C : Type 0} → Tells (nodeSound node (n site)) C → Tells (actorSound site node i) ((i < n site) × C)
 unfolding actorSound
 actor-tells site node i tells = above (n site) i and tells
 
@@ -92,38 +92,43 @@ begin-tells lent b =
 fresh-tells : (T t : Dts) → Tells (fresh T t) ((T .0 + 2 < t .0) ⊎ (t .0 + 2 < T .0))
 fresh-tells T t = worded (λ h. omega arith, λ h. omega arith) (above (t .0 - 2) (T .0)) or above (T .0) (t .0 + 2)
 
+-- every row's test tells the row's condition: those after 16, whatever step it is that names these things,
+pub later-rows-tell : (site : Site) (lent : ℕ) (node : Node) (the : Named) → Tell (rowsFor site lent node the) (laterRows site lent node the)
+later-rows-tell site lent node the =
+    let said = the .said in
+    also 1 (of-named (the .beginning) (begin-tells lent))
+    (also 2
+    (of-named (the .actor) (λ i. from i (n site))
+    or of-named (said .sender) (λ i. from i (n site))
+    or of-named (said .status) (λ A. above A 1)
+    or of-named (said .back) (λ back. above back 7))
+    (also 3 (of-named (the .actor) λ i. negated (isIn (site .compromised) i))
+    (also 4 (of-named (the .actor) λ i. itself (phaseTakes (node .phase) (said .kind)))
+    (also 5 (of-named (the .clock) λ t. other (t .0) (g site .0) and other (t .0) (g site .0 + 1))
+    (also 6 (of-named (the .clock) λ t. above (lastClock site node (the .actor) .0) (t .0))
+    (also 7 (of-named (the .clock) λ t. of-each (said .stamps) λ T. fresh-tells T t)
+    (also 8
+    ((of-named (said .sender) λ i. of-named (said .status) λ A. of-each (said .stamps) λ T.
+    itself (isIn (site .compromised) i) and itself (held (site .made) A T i))
+    or kind-is (said .kind) command and (of-named (said .status) λ A. of-each (said .stamps) λ T. above (site .f + 1) (size (counted site A T))))
+    (also 9 (of-named (said .number) λ number. new-tells node number)
+    (also 11
+    (kind-is (said .kind) command and (of-named (said .status) λ A.
+    other A (site .breaker .pair .status) and (of-each (said .stamps) λ T. from (site .breaker .pair .stamp .0) (T .0))))
+    (also 12
+    (kind-is (said .kind) shareTimeout and in-attempt-tells node or kind-is (said .kind) resendTimeout and armed-tells node)
+    (also 13 (of-named (said .back) λ back. above (back + 1) (site .breaker .changes .count))
+    (also 14 (kind-is (said .kind) down and from (size (site .down)) (site .k))
+    (also 15 (kind-is (said .kind) tick and equal (g site .0) 1_000_000_000)
+    no-rows)))))))))))))
+
 module _ (site : Site) (lent : ℕ) (node : Node) (step : Step) where
-  -- every row's test tells the row's condition
-  rows-tell : Tell (tableFor site lent node (named step)) (refusalTable site lent node step)
+  -- and 16
+  rows-tell : Tell (tableFor site lent node (named step)) (refusalTable site lent node (named step))
   rows-tell =
       let the = named step in
-      let said = the .said in
-      also 16 (no-start (the .beginning) (site-tells site lent node step or of-named (the .actor) (λ i. actor-tells site node i (node-tells node (n site)))))
-      (also 1 (of-named (the .beginning) (begin-tells lent))
-      (also 2
-      (of-named (the .actor) (λ i. from i (n site))
-      or of-named (said .sender) (λ i. from i (n site))
-      or of-named (said .status) (λ A. above A 1)
-      or of-named (said .back) (λ back. above back 7))
-      (also 3 (of-named (the .actor) λ i. negated (isIn (site .compromised) i))
-      (also 4 (of-named (the .actor) λ i. itself (phaseTakes (node .phase) (said .kind)))
-      (also 5 (of-named (the .clock) λ t. other (t .0) (g site .0) and other (t .0) (g site .0 + 1))
-      (also 6 (of-named (the .clock) λ t. above (lastClock site node (the .actor) .0) (t .0))
-      (also 7 (of-named (the .clock) λ t. of-each (said .stamps) λ T. fresh-tells T t)
-      (also 8
-      ((of-named (said .sender) λ i. of-named (said .status) λ A. of-each (said .stamps) λ T.
-      itself (isIn (site .compromised) i) and itself (held (site .made) A T i))
-      or kind-is (said .kind) command and (of-named (said .status) λ A. of-each (said .stamps) λ T. above (site .f + 1) (size (counted site A T))))
-      (also 9 (of-named (said .number) λ number. new-tells node number)
-      (also 11
-      (kind-is (said .kind) command and (of-named (said .status) λ A.
-      other A (site .breaker .pair .status) and (of-each (said .stamps) λ T. from (site .breaker .pair .stamp .0) (T .0))))
-      (also 12
-      (kind-is (said .kind) shareTimeout and in-attempt-tells node or kind-is (said .kind) resendTimeout and armed-tells node)
-      (also 13 (of-named (said .back) λ back. above (back + 1) (site .breaker .changes .count))
-      (also 14 (kind-is (said .kind) down and from (size (site .down)) (site .k))
-      (also 15 (kind-is (said .kind) tick and equal (g site .0) 1_000_000_000)
-      no-rows))))))))))))))
+      also 16 (no-start (the .beginning) (site-tells site lent node the or of-named (the .actor) (λ i. actor-tells site node i (node-tells node (n site)))))
+      (later-rows-tell site lent node the)
 
   number : answeredWith site lent node step ≡ refusal (tableFor site lent node (named step))
   unfolding testsOf
@@ -131,7 +136,7 @@ module _ (site : Site) (lent : ℕ) (node : Node) (step : Step) where
 
   -- A step is answered with k exactly when the condition of row k is met and that of no row in front of it.
   pub told : (k : ℕ) → 0 < k
-      → (answeredWith site lent node step ≡ k) ↔ (NoneBefore k (refusalTable site lent node step) × Condition k (refusalTable site lent node step))
+      → (answeredWith site lent node step ≡ k) ↔ (NoneBefore k (refusalTable site lent node (named step)) × Condition k (refusalTable site lent node (named step)))
   told k pos = rw number (exactly rows-tell refl k pos)
 
   -- A step that passes the test of row k is not answered with k.
@@ -139,7 +144,7 @@ module _ (site : Site) (lent : ℕ) (node : Node) (step : Step) where
   not-given k pos passes is = true≢false (sym passes ∙ met rows-tell k (told k pos .0 is .1))
 
   -- It is answered with 0 exactly when no row has its condition met,
-  pub told-done : (answeredWith site lent node step ≡ 0) ↔ None (refusalTable site lent node step)
+  pub told-done : (answeredWith site lent node step ≡ 0) ↔ None (refusalTable site lent node (named step))
   told-done = rw number (exactly-done rows-tell refl)
 
   -- and with no number above 16.

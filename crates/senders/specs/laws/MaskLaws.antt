@@ -10,9 +10,9 @@ use lib.Bits.{bitOr, bitXor, differ, or-lt}
 use lib.Count.{ones, onesIn, ones-step}
 use lib.Dec.{eqb, ltb, lit<}
 use lib.Pow.{pow-lt, pow-mono, shr-lt, shr-shr}
-use borrow.Author.Tests.{eq-eqb, eqb-true, eqb-false, ne-eqb, lt-ltb, lt-leb, ltb-true}
+use borrow.Author.Tests.{eq-eqb, eqb-true, eqb-false, ne-eqb, lt-ltb, lt-leb, le-leb, leb-true, ltb-true}
 use Rattle.senders.specs.Sets.{countBelow, tally, both}
-use Rattle.senders.specs.laws.Sets.{count-ext, count-low, count-joined, count-above, outside}
+use Rattle.senders.specs.laws.Sets.{count-ext, count-low, count-joined, count-above, count-none, count-some, outside}
 use Rattle.senders.specs.Masks.{room, isIn, size, enough, joined, without, together}
 use Rattle.senders.specs.laws.Bits.{bit, bit-lt, bit-or, bit-xor, own-bit, other-bit}
 
@@ -199,6 +199,23 @@ size-joined mask i l e =
     count-joined room (isIn mask) (isIn (joined mask i)) i l e
     (in-joined mask i i ∙ ap₂ (λ (a b : Bool). a && b || isIn mask i) (lt-ltb i room l) (eq-eqb i i refl))
     (λ j ne. sym (in-joined mask i j ∙ ap₂ (λ (a b : Bool). a && b || isIn mask j) (lt-ltb i room l) (ne-eqb j i ne)))
+
+-- At least one: somebody is in the set.
+pub one-enough : (mask i : ℕ) → i < room → isIn mask i ≡ true → enough mask 0 ≡ true
+unfolding size
+one-enough mask i l e = le-leb 1 _ (count-some room (isIn mask) i l e)
+
+pub enough-one : (mask : ℕ) → enough mask 0 ≡ true → (i : ℕ) × (i < room) × (isIn mask i ≡ true)
+unfolding size
+enough-one mask e =
+    let some = leb-true 1 (countBelow room (isIn mask)) e in
+    let none = count-none room (both (isIn mask) (λ j. false)) (λ j. and-none (isIn mask j)) in
+    let found = outside room (isIn mask) (λ j. false) (omega (arith, some, none)) in
+    (found .0, found .1, found .2)
+  where
+    and-none : (x : Bool) → (x && false) ≡ false
+    and-none true = refl
+    and-none false = refl
 
 -- More than f senders, at most f of them in c, all below n: one of them is outside c.
 pub some-outside : (n mask c f : ℕ) → n ≤ room → ((i : ℕ) → isIn mask i ≡ true → i < n) → f < size mask → countBelow n (both (isIn mask) (isIn c)) ≤ f

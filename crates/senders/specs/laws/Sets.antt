@@ -74,6 +74,17 @@ unfolding countBelow
 count-none zero p h = refl
 count-none (suc n) p h = ap (λ (x : Bool). tally x (countBelow n p)) (h n) ∙ count-none n p h
 
+-- A set with a member counts at least one.
+pub count-some : (n : ℕ) (p : ℕ → Bool) (i : ℕ) → i < n → p i ≡ true → 1 ≤ countBelow n p
+unfolding countBelow
+count-some zero p i l e = absurd (not-suc-le-zero l)
+count-some (suc n) p i l e = go (λ k. count-some n p i k e) (p n) refl (eq-or-lt-of-le (le-of-suc-le-suc l))
+  where
+    go : (i < n → 1 ≤ countBelow n p) → (x : Bool) → p n ≡ x → (i ≡ n) ⊎ (i < n) → 1 ≤ tally x (countBelow n p)
+    go ih true ex w = omega arith
+    go ih false ex (inl d) = absurd (false≢true (sym ex ∙ ap p (sym d) ∙ e))
+    go ih false ex (inr k) = ih k
+
 -- A set whose members all lie among w numbers from lo on has at most w members.
 pub count-window : (n lo w : ℕ) (p : ℕ → Bool) → ((i : ℕ) → p i ≡ true → (lo ≤ i) × (i < lo + w)) → countBelow n p ≤ w
 unfolding countBelow

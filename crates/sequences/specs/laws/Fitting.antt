@@ -9,13 +9,12 @@ use lib.Dec.{eqb}
 use borrow.Author.Tests.{leb-true}
 use Rattle.time.specs.declared.Dts.{Dts}
 use Rattle.time.specs.Fresh.{fresh, window}
-use Rattle.time.specs.laws.Fresh.{latestClock, fresh-ahead, fresh-then}
+use Rattle.time.specs.laws.Fresh.{latestClock, fresh-ahead}
 use Rattle.senders.specs.Masks.{room}
 use Rattle.store.specs.declared.Store.{Store}
-use Rattle.store.specs.Store.{empty, movedTo}
+use Rattle.store.specs.Store.{empty}
 use Rattle.store.specs.Held.{held}
-use Rattle.store.specs.laws.Held.{held-empty, held-moved}
-use Rattle.store.specs.laws.HeldLaws.{clock-at}
+use Rattle.store.specs.laws.Held.{held-empty}
 use Rattle.pairs.specs.declared.Pair.{Pair}
 use Rattle.pairs.specs.declared.Known.the-variants.{No}
 use Rattle.pairs.specs.Pair.{listed, has}
@@ -40,25 +39,10 @@ use Rattle.acting.specs.laws.Running.{remembers, goes-on as event-goes, breaker
 use Rattle.acting.specs.laws.Shares.{IsAction}
 use Rattle.acting.specs.laws.Stores.{Delivers, broughtBy, clock-after, held-after, brought-fresh, began-empty}
 use Rattle.site.specs.declared.Sent.{Sent}
+use Rattle.history.specs.laws.Holding.{held-later}
 use Rattle.refusing.specs.Tests.{isStatus}
 use Rattle.sequences.specs.History.{Accepted, lastReport, clock, life, oneOf, runs, brought, deliveries}
 use Rattle.sequences.specs.laws.OfEvents.{delivered-as-told}
-
--- What was held of some deliveries, at a later clock.
-held-later : (s : Store) (t : Dts) (ps : List Pair) (A : ℕ) (T : Dts) (i : ℕ) → s .clock .0 ≤ t .0
-    → held s A T i ≡ (has ps A T && fresh T (s .clock)) → (has ps A T ≡ true → T .0 ≤ s .clock .0 + window)
-    → held (movedTo s t) A T i ≡ (has ps A T && fresh T t)
-held-later s t ps A T i l e soon =
-    held-moved s t A T i
-    ∙ ap (λ (c : Dts). fresh T c && held s A T i) (clock-at s t l)
-    ∙ ap (λ (x : Bool). fresh T t && x) e
-    ∙ go (has ps A T) (fresh T t) (fresh T (s .clock)) soon (λ h. λ k. fresh-then T (s .clock) t l h k)
-  where
-    go : (h x y : Bool) → (h ≡ true → T .0 ≤ s .clock .0 + window) → (T .0 ≤ s .clock .0 + window → x ≡ true → y ≡ true) → (x && (h && y)) ≡ (h && x)
-    go true true y soon keeps = keeps (soon refl) refl
-    go true false y soon keeps = refl
-    go false true y soon keeps = refl
-    go false false y soon keeps = refl
 
 -- ---- what fits
 

@@ -20,7 +20,7 @@ use Rattle.site.specs.Answers.{Message, Share, Command, Ack}
 use Rattle.text.specs.Puts.{Puts, then, set-front}
 use Rattle.text.specs.Decimal.{decimal}
 use Rattle.text.specs.laws.Decimal.{length-decimal}
-use Rattle.text.specs.Line.{pairText, messageText, afterCommas, headWith, tailText, shownStatus, shownStamp, lineWith, lineOf}
+use Rattle.text.specs.Line.{pairText, messageText, afterCommas, headWith, tailText, shownStatus, shownStamp, lineWith, lineOf, messageTail, messageLine}
 use Rattle.text.specs.Lines.{longestLine, lineBytes, lineNext}
 
 -- nothing put
@@ -165,6 +165,13 @@ pub line-put : (number refusal status stamp i : ℕ) (ms : List Message) {l l1 l
     → (l2 ≡ lineBytes l at (lineWith number refusal status stamp i ms)) × (r ≡ lineNext l at (lineWith number refusal status stamp i ms))
 unfolding lineWith lineBytes lineNext
 line-put number refusal status stamp i ms room p q = let whole = then p q in (simp room (whole .bytes), simp room (whole .place))
+
+-- and so is one with a message
+pub message-put : (number status stamp i : ℕ) (pair : Pair) {l l1 l2 : List ℕ} {at next r : ℕ} → leb (at + longestLine) (length l) ≡ true
+    → Puts l at (headWith number 0 status stamp) l1 next → Puts l1 next (messageTail i pair) l2 r
+    → (l2 ≡ lineBytes l at (messageLine number status stamp i pair)) × (r ≡ lineNext l at (messageLine number status stamp i pair))
+unfolding messageLine lineBytes lineNext
+message-put number status stamp i pair room p q = let whole = then p q in (simp room (whole .bytes), simp room (whole .place))
 
 -- where there is no room
 pub line-kept : (l : List ℕ) (at : ℕ) (text : List ℕ) → leb (at + longestLine) (length l) ≡ false → (l ≡ lineBytes l at text) × (at ≡ lineNext l at text)
