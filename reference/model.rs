@@ -143,19 +143,24 @@ pub fn is_new(number: u32, last: Option<u32>) -> bool {
 }
 
 /// A report at a node that knows b stamps r with the larger of t and b's stamp (request 1), at any other with t.
-fn report_pair(status: u8, t: u64, b: Option<Pair>) -> Pair {
+pub fn report_pair(status: u8, t: u64, b: Option<Pair>) -> Pair {
     Pair { status: Status::of(status).unwrap(), stamp: b.map_or(t, |b| t.max(b.stamp)) }
+}
+
+/// The state of a running node.
+pub fn state(r: Pair, b: Pair) -> State {
+    if r.status == b.status {
+        State::Done(r.status)
+    } else if r.stamp >= b.stamp {
+        State::Attempt(r.status)
+    } else {
+        State::Wait(b.status)
+    }
 }
 
 impl Running {
     pub fn state(&self) -> State {
-        if self.r.status == self.b.status {
-            State::Done(self.r.status)
-        } else if self.r.stamp >= self.b.stamp {
-            State::Attempt(self.r.status)
-        } else {
-            State::Wait(self.b.status)
-        }
+        state(self.r, self.b)
     }
 
     fn hold(&mut self, sender: u8, share: Pair) {

@@ -15,7 +15,8 @@ impl Model {
     }
 }
 
-fn start_fits(f: u8, k: u8, set: u16, status: u8, g: u32) -> bool {
+/// What row 1 asks of a Start.
+pub fn start_fits(f: u8, k: u8, set: u16, status: u8, g: u32) -> bool {
     if f > 4 || k > 3 || status > 1 || !(2..=999_999_000).contains(&g) {
         return false;
     }

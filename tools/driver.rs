@@ -7,14 +7,14 @@
 mod tally;
 
 use reference::{log, replay::replay};
-use std::collections::{BTreeMap, BTreeSet};
-use std::io::{Read, Write};
-use std::process::{exit, Command, Stdio};
+use std::process::exit;
 use std::sync::Mutex;
+use std::time::Duration;
 use tally::Tally;
 use tools::conditions::{Bench, Condition, ALL};
 use tools::generator::{random_log, Walk, USUAL};
-use tools::notation::{differences, parse, Difference};
+use tools::notation::parse;
+use tools::programs::{each, first_difference, named_runs, output_in_pieces};
 
 /// Random logs that are run one behind the other in one process: at most so many.
 const BATCH: usize = 25;
@@ -25,7 +25,7 @@ fn main() {
         eprintln!("driver COMMAND LOGS RUN..");
         exit(1);
     };
-    let outcome = named_runs(program, &words[2..])
+    let outcome = named_runs(program, &words[2..], parse, expected)
         .and_then(|_| conditions(program))
         .and_then(|_| cut_logs(program))
         .and_then(|_| long_logs(program))
@@ -34,28 +34,6 @@ fn main() {
         println!("{difference}");
         exit(1);
     }
-}
-
-/// Does the work for every item, on all processors, until it fails.
-fn each<T: Send>(
-    items: impl Iterator<Item = T> + Send,
-    work: impl Fn(T) -> Result<(), String> + Sync,
-) -> Result<(), String> {
-    let items = Mutex::new(items);
-    let failure = Mutex::new(None);
-    let worker = || loop {
-        let item = items.lock().unwrap().next();
-        let Some(item) = item.filter(|_| failure.lock().unwrap().is_none()) else { return };
-        if let Err(problem) = work(item) {
-            failure.lock().unwrap().get_or_insert(problem);
-        }
-    };
-    std::thread::scope(|scope| {
-        for _ in 0..std::thread::available_parallelism().map_or(1, |processors| processors.get()) {
-            scope.spawn(worker);
-        }
-    });
-    failure.into_inner().unwrap().map_or(Ok(()), Err)
 }
 
 fn expected(bytes: &[u8]) -> String {
@@ -67,97 +45,14 @@ fn expected(bytes: &[u8]) -> String {
     text
 }
 
-/// What the program prints for a log that is handed to it in pieces of this size.
-fn output(program: &str, bytes: &[u8], piece: usize) -> Result<String, String> {
-    let say = |error: std::io::Error| format!("{program}: {error}");
-    let mut words = program.split_whitespace();
-    let mut command = Command::new(words.next().unwrap_or_default());
-    let mut child = command.args(words).stdin(Stdio::piped()).stdout(Stdio::piped()).spawn().map_err(say)?;
-    let mut input = child.stdin.take().unwrap();
-    let mut printed = Vec::new();
-    std::thread::scope(|scope| {
-        // The program may stop reading at a malformed record, so a broken pipe is no failure.
-        scope.spawn(move || bytes.chunks(piece).all(|piece| input.write_all(piece).is_ok()));
-        child.stdout.take().unwrap().read_to_end(&mut printed)
-    })
-    .map_err(say)?;
-    let status = child.wait().map_err(say)?;
-    if status.code().is_none() {
-        return Err(format!("{program} was stopped: {status}"));
-    }
-    String::from_utf8(printed).map_err(|_| format!("{program} printed what is no text"))
-}
-
-/// The first line in which the program differs from the reference.
-fn first_difference(expected: &str, printed: &str) -> Option<String> {
-    let (mut ours, mut theirs) = (expected.split_inclusive('\n'), printed.split_inclusive('\n'));
-    loop {
-        let (our, their) = (ours.next(), theirs.next());
-        if our != their {
-            let shown = |line: Option<&str>| line.map_or("(nothing)".to_string(), |line| format!("{line:?}"));
-            return Some(format!("the reference prints {}, the program {}", shown(our), shown(their)));
-        }
-        our?;
-    }
-}
-
 /// Compares byte for byte; a difference names the log and the first line that differs, and the log is kept.
 fn compare(program: &str, name: &str, bytes: &[u8], piece: usize) -> Result<String, String> {
     let expected = expected(bytes);
-    let printed = output(program, bytes, piece)?;
-    let Some(difference) = first_difference(&expected, &printed) else { return Ok(expected) };
+    let printed = output_in_pieces(program, bytes, piece, Duration::ZERO)?;
+    let Some((_, difference)) = first_difference(&expected, &printed) else { return Ok(expected) };
     let kept = "target/tools/differs.log";
     std::fs::write(kept, bytes).map_err(|error| format!("{kept}: {error}"))?;
     Err(format!("{name}: {difference}; the log is kept in {kept}"))
-}
-
-/// Every difference between the lines of a run, the reference and the program.
-fn named_run(program: &str, file: &str) -> Result<Vec<Difference>, String> {
-    let whole = |text| Difference { line_in_file: None, text: format!("{file}: {text}") };
-    let text = std::fs::read_to_string(file).map_err(|error| error.to_string());
-    let run = match text.and_then(|text| parse(&text)) {
-        Ok(run) => run,
-        Err(problem) => return Ok(vec![whole(problem)]),
-    };
-    let (expected, printed) = (expected(&run.bytes), output(program, &run.bytes, usize::MAX)?);
-    let (by_reference, by_program) = (differences(file, &run, &expected), differences(file, &run, &printed));
-    let mut found = Vec::new();
-    for (who, these, others) in [("reference", &by_reference, &by_program), ("program", &by_program, &by_reference)] {
-        for Difference { line_in_file, text } in these.iter().filter(|one| !others.contains(one)) {
-            found.push(Difference { line_in_file: *line_in_file, text: format!("the {who}: {text}") });
-        }
-    }
-    found.extend(by_program.into_iter().filter(|one| by_reference.contains(one)));
-    if found.is_empty() {
-        // Where a step has left its line out, the two still have to agree.
-        found.extend(first_difference(&expected, &printed).map(whole));
-    }
-    found.sort_by_key(|one| one.line_in_file.unwrap_or(usize::MAX));
-    Ok(found)
-}
-
-fn named_runs(program: &str, files: &[String]) -> Result<(), String> {
-    let found = Mutex::new(BTreeMap::new());
-    each(files.iter(), |file| {
-        let differences = named_run(program, file)?;
-        if !differences.is_empty() {
-            found.lock().unwrap().insert(file, differences);
-        }
-        Ok(())
-    })?;
-    let found = found.into_inner().unwrap();
-    if found.is_empty() {
-        println!("{} named runs", files.len());
-        return Ok(());
-    }
-    let mut lines = BTreeSet::new();
-    for (file, differences) in &found {
-        for difference in differences {
-            println!("{}", difference.text);
-            lines.extend(difference.line_in_file.map(|line| (file, line)));
-        }
-    }
-    Err(format!("runs that differ: {} of {}; lines that differ: {}", found.len(), files.len(), lines.len()))
 }
 
 fn condition(condition: Condition, actions: u64) -> Vec<u8> {

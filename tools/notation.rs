@@ -13,9 +13,74 @@
 //! that a step can be put in between without numbering the others anew.
 //!
 //!     Tick x 3                        | 0 C 100 -
+//!
+//! A run of the Arbiter is written alike and becomes calls, which have no version. It has `Message(sender, t,
+//! status, T)`, and neither Deliver nor Command nor ResendTimeout.
 
-use reference::log;
 use reference::model::Step;
+use reference::{arbiter, calls, log};
+
+/// What a run becomes.
+struct Form {
+    site: &'static str,
+    /// The byte at the front, unless the run says another; where there is none, a run has no version.
+    version: Option<u8>,
+    steps: &'static [&'static str],
+    /// Adds the bytes of a step, which is one of `steps`.
+    write: fn(&Said, &mut Vec<u8>),
+}
+
+const LOG: Form = Form {
+    site: "the Peer site",
+    version: Some(log::VERSION),
+    steps: &[
+        "Start",
+        "Tick",
+        "Report",
+        "Deliver",
+        "ShareTimeout",
+        "ResendTimeout",
+        "Command",
+        "Ack",
+        "Query",
+        "Down",
+        "Up",
+    ],
+    write: |said, out| match said {
+        Said::Step(step) => log::write(step, out),
+        Said::Message(_) => unreachable!(),
+    },
+};
+
+const CALLS: Form = Form {
+    site: "the Arbiter's site",
+    version: None,
+    steps: &["Start", "Tick", "Report", "ShareTimeout", "Ack", "Query", "Down", "Up", "Message"],
+    write: |said, out| calls::write(&in_the_arbiter(said), out),
+};
+
+/// A step as it is written down: the Peer site's, or a message to the Arbiter.
+enum Said {
+    Step(Step),
+    Message(arbiter::Step),
+}
+
+fn in_the_arbiter(said: &Said) -> arbiter::Step {
+    match *said {
+        Said::Message(message) => message,
+        Said::Step(step) => match step {
+            Step::Start { f, k, set, status, g } => arbiter::Step::Start { f, k, set, status, g },
+            Step::Tick => arbiter::Step::Tick,
+            Step::Report { node, t, status, number } => arbiter::Step::Report { node, t, status, number },
+            Step::ShareTimeout { node, t } => arbiter::Step::ShareTimeout { node, t },
+            Step::Ack { node, t, back } => arbiter::Step::Ack { node, t, back },
+            Step::Query { node, t } => arbiter::Step::Query { node, t },
+            Step::Down { node } => arbiter::Step::Down { node },
+            Step::Up { node } => arbiter::Step::Up { node },
+            Step::Deliver { .. } | Step::ResendTimeout { .. } | Step::Command { .. } => unreachable!(),
+        },
+    }
+}
 
 pub struct Run {
     pub bytes: Vec<u8>,
@@ -53,7 +118,17 @@ fn parts(line: &str) -> (&str, Option<&str>) {
     }
 }
 
+/// A run of the Peer site, as a log.
 pub fn parse(text: &str) -> Result<Run, String> {
+    parse_as(&LOG, text)
+}
+
+/// A run of the Arbiter's site, as calls.
+pub fn parse_calls(text: &str) -> Result<Run, String> {
+    parse_as(&CALLS, text)
+}
+
+fn parse_as(form: &Form, text: &str) -> Result<Run, String> {
     let mut run = Run { bytes: Vec::new(), expected: Vec::new(), steps: 0, numbers: Vec::new() };
     let mut begun = false;
     for (index, line) in text.lines().enumerate() {
@@ -61,12 +136,15 @@ pub fn parse(text: &str) -> Result<Run, String> {
         let at = |problem: String| format!("line {}: {problem}", index + 1);
         let version = left.strip_prefix("version ");
         if !begun && !left.is_empty() && version.is_none() {
-            run.bytes.push(log::VERSION);
+            run.bytes.extend(form.version);
         }
         let mut prints = 0;
         match (left.is_empty(), version) {
             (true, _) if right.is_some() => return Err(at("a line to print, but no step".into())),
             (true, _) => {}
+            (_, Some(_)) if form.version.is_none() => {
+                return Err(at(format!("a run of {} has no version: a step or bytes should stand here", form.site)));
+            }
             (_, Some(_)) if begun => return Err(at("the version stands at the front or not at all".into())),
             (_, Some("none")) => prints = usize::from(right.is_some()),
             (_, Some(number)) => {
@@ -82,9 +160,9 @@ pub fn parse(text: &str) -> Result<Run, String> {
                     prints = usize::from(right.is_some());
                 }
                 None => {
-                    let (step, times) = Words::of(left).and_then(|mut words| words.step()).map_err(at)?;
+                    let (step, times) = Words::of(left).and_then(|mut words| words.step(form)).map_err(at)?;
                     for _ in 0..times {
-                        log::write(&step, &mut run.bytes);
+                        (form.write)(&step, &mut run.bytes);
                     }
                     prints = times;
                 }
@@ -100,7 +178,7 @@ pub fn parse(text: &str) -> Result<Run, String> {
         }
     }
     if !begun {
-        run.bytes.push(log::VERSION);
+        run.bytes.extend(form.version);
     }
     Ok(run)
 }
@@ -193,7 +271,7 @@ impl<'a> Words<'a> {
 
     fn number(&mut self) -> Result<u32, String> {
         let word = self.word()?;
-        word.replace('_', "").parse().map_err(|_| format!("`{word}` is no number that fits the log"))
+        word.replace('_', "").parse().map_err(|_| format!("`{word}` is no number of 32 bits"))
     }
 
     fn byte(&mut self) -> Result<u8, String> {
@@ -236,12 +314,41 @@ impl<'a> Words<'a> {
     }
 
     /// One step and how often it is repeated.
-    fn step(&mut self) -> Result<(Step, usize), String> {
+    fn step(&mut self, form: &Form) -> Result<(Said, usize), String> {
         let name = self.word()?;
+        if !form.steps.contains(&name) {
+            let (site, steps) = (form.site, form.steps.join(", "));
+            return Err(format!("no step of {site} is called `{name}`: one of {steps} should stand here"));
+        }
         if name != "Tick" {
             self.mark("(")?;
         }
         let step = match name {
+            "Message" => {
+                let (sender, t, status) = (self.byte()?, self.then(Self::number)?, self.then(Self::status)?);
+                Said::Message(arbiter::Step::Message { sender, t, status, stamp: self.then(Self::number)? })
+            }
+            _ => Said::Step(self.peer_step(name)?),
+        };
+        if name != "Tick" {
+            self.mark(")")?;
+        }
+        let times = match self.words.len() - self.next {
+            0 => 1,
+            _ => {
+                self.mark("x")?;
+                self.number()? as usize
+            }
+        };
+        match self.words.get(self.next) {
+            None => Ok((step, times)),
+            Some(word) => Err(format!("`{word}` after the step")),
+        }
+    }
+
+    /// The fields of the step of that name.
+    fn peer_step(&mut self, name: &str) -> Result<Step, String> {
+        Ok(match name {
             "Start" => {
                 let (f, k) = (self.byte()?, self.then(Self::byte)?);
                 let (set, status) = (self.then(Self::set)?, self.then(Self::status)?);
@@ -270,21 +377,7 @@ impl<'a> Words<'a> {
             "Query" => Step::Query { node: self.byte()?, t: self.then(Self::number)? },
             "Down" => Step::Down { node: self.byte()? },
             "Up" => Step::Up { node: self.byte()? },
-            _ => return Err(format!("no step is called `{name}`")),
-        };
-        if name != "Tick" {
-            self.mark(")")?;
-        }
-        let times = match self.words.len() - self.next {
-            0 => 1,
-            _ => {
-                self.mark("x")?;
-                self.number()? as usize
-            }
-        };
-        match self.words.get(self.next) {
-            None => Ok((step, times)),
-            Some(word) => Err(format!("`{word}` after the step")),
-        }
+            _ => unreachable!(),
+        })
     }
 }

@@ -1,0 +1,3 @@
+-- The lent table of an Arbiter site.
+pub mod Lent
+pub mod laws

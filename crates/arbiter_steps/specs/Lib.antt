@@ -1,0 +1,2 @@
+-- What a step is, and what it names.
+pub mod Steps
