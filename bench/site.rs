@@ -19,8 +19,11 @@ struct Node {
     armed: bool,
     r_status: u8,
     b_status: u8,
+    heard_status: u8,
     r: u32,
     b: u32,
+    /// The breaker as acknowledged or queried, in a running node; in a starting one that is b.
+    heard: u32,
     number: u32,
     /// 0 before the first.
     clock: u32,
@@ -35,8 +38,10 @@ const EMPTY: Node = Node {
     armed: false,
     r_status: 0,
     b_status: 0,
+    heard_status: 0,
     r: 0,
     b: 0,
+    heard: 0,
     number: 0,
     clock: 0,
     resend: 0,
@@ -132,6 +137,7 @@ impl Node {
         if self.knows_r && self.knows_b {
             self.phase = RUNNING;
             self.armed = false;
+            (self.heard_status, self.heard) = (self.b_status, self.b);
             self.store = [[0; 8]; 2];
         }
     }
@@ -278,8 +284,10 @@ impl Site {
         let (r_status, b_status, resend) = (node.r_status, node.b_status, node.resend);
         if shares {
             self.make(at, r_status, t, out);
-        } else {
+        } else if fresh(resend, t) {
             out.push(b'C', 0, b_status, resend);
+        } else {
+            (node.b_status, node.b, node.armed) = (node.heard_status, node.heard, false);
         }
         self.nodes[usize::from(at)].combine(self.threshold, out);
         0
@@ -339,6 +347,9 @@ impl Site {
                 node.armed = false;
             }
             (node.b_status, node.b) = (status, stamp);
+        }
+        if stamp >= node.heard {
+            (node.heard_status, node.heard) = (status, stamp);
         }
         node.combine(self.threshold, out);
         0

@@ -82,6 +82,9 @@ pub enum State {
 pub struct Starting {
     pub r: Option<Pair>,
     pub b: Option<Pair>,
+    /// "The breaker's status and stamp as acknowledged or queried. A query sets it, and so does an ack when there is
+    /// none yet or its stamp is not below the pair's" (request 9). The Arbiter's nodes send no command and have none.
+    pub heard: Option<Pair>,
     pub number: Option<u32>,
     pub clock: Option<u64>,
 }
@@ -90,6 +93,7 @@ pub struct Starting {
 pub struct Running {
     pub r: Pair,
     pub b: Pair,
+    pub heard: Pair,
     pub number: u32,
     pub clock: u64,
     /// For each action and stamp, the senders whose share was delivered since the node began running.
@@ -274,13 +278,19 @@ impl Site {
                 if node.b.is_none_or(|b| change.stamp >= b.stamp) {
                     node.b = Some(change);
                 }
+                if node.heard.is_none_or(|heard| change.stamp >= heard.stamp) {
+                    node.heard = Some(change);
+                }
             }
-            Step::Query { .. } => node.b = Some(self.breaker),
+            Step::Query { .. } => {
+                node.b = Some(self.breaker);
+                node.heard = Some(self.breaker);
+            }
             _ => unreachable!(),
         }
-        match (node.r, node.b, node.number) {
-            (Some(r), Some(b), Some(number)) => {
-                Record::Running(Running { r, b, number, clock: t, store: BTreeMap::new(), resend: None })
+        match (node.r, node.b, node.heard, node.number) {
+            (Some(r), Some(b), Some(heard), Some(number)) => {
+                Record::Running(Running { r, b, heard, number, clock: t, store: BTreeMap::new(), resend: None })
             }
             _ => Record::Starting(node),
         }
@@ -306,7 +316,15 @@ impl Site {
             }
             Step::ShareTimeout { .. } => sent.push(Sent::Share(me, Pair { status: node.r.status, stamp: t })),
             Step::ResendTimeout { .. } => {
-                sent.push(Sent::Command(Pair { status: node.b.status, stamp: node.resend.unwrap() }));
+                let stamp = node.resend.unwrap();
+                if fresh(stamp, t) {
+                    sent.push(Sent::Command(Pair { status: node.b.status, stamp }));
+                } else {
+                    // "When the stamp is no longer fresh, b returns to that pair, the old command is not sent, resend
+                    // is disarmed, and the state is read afresh, with 01's combining rule at the end" (request 9).
+                    node.b = node.heard;
+                    node.resend = None;
+                }
             }
             Step::Ack { back, .. } => {
                 let change = self.change(back).unwrap();
@@ -315,6 +333,9 @@ impl Site {
                 }
                 if change.stamp >= node.b.stamp {
                     node.b = change;
+                }
+                if change.stamp >= node.heard.stamp {
+                    node.heard = change;
                 }
             }
             _ => unreachable!(),

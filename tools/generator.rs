@@ -3,7 +3,7 @@
 
 use crate::random::Random;
 use reference::log;
-use reference::model::{fresh, Answer, Model, Pair, Record, Running, Site, State, Status, Step};
+use reference::model::{fresh, state, Answer, Model, Pair, Record, Running, Site, State, Status, Step};
 use std::collections::BTreeSet;
 
 pub struct Walk {
@@ -127,6 +127,11 @@ impl Walk {
                 _ => self.report(site, node),
             };
         }
+        if self.random.one_in(2) {
+            if let Some(step) = self.overtaken(site) {
+                return step;
+            }
+        }
         let up = nodes(site, |record| running(record, |_| true));
         let attempting = nodes(site, |record| running(record, |node| matches!(node.state(), State::Attempt(_))));
         let armed = nodes(site, |record| running(record, |node| node.resend.is_some()));
@@ -141,7 +146,11 @@ impl Walk {
                 self.report(site, node)
             }
             22..=61 => {
-                let wanting = if self.random.one_in(3) { &up } else { &attempting };
+                let wanting = match self.random.below(9) {
+                    0..=2 => &up,
+                    3..=4 if !armed.is_empty() => &armed,
+                    _ => &attempting,
+                };
                 let receiver = some(wanting, &mut self.random);
                 self.deliver(site, receiver)
             }
@@ -164,6 +173,27 @@ impl Walk {
             _ if !down.is_empty() => Step::Up { node: self.random.pick(&down) },
             _ => Step::Query { node: some(&starting, &mut self.random), t: self.clock(site, None) as u32 },
         }
+    }
+
+    /// For a node that has missed the breaker's newest change, of the other status than its relay's report and later: the
+    /// next step on the way to Wait. It sends its command, hears of that change, and gives the command up when it is old.
+    fn overtaken(&mut self, site: &Site) -> Option<Step> {
+        let newest = *site.changes.last()?;
+        let missed = |node: &Running| {
+            let attempts = matches!(node.state(), State::Attempt(_));
+            let commanded = node.resend.is_some_and(|stamp| stamp > newest.stamp);
+            state(node.r, newest) == State::Wait(newest.status) && (attempts || commanded)
+        };
+        let node = *nodes(site, |record| running(record, missed)).first()?;
+        let Record::Running(record) = &site.nodes[&node] else { return None };
+        let t = self.node_clock(site, node);
+        Some(match record.resend {
+            None if self.random.one_in(2) => self.deliver(site, node),
+            None => Step::ShareTimeout { node, t },
+            Some(_) if record.heard != newest => Step::Ack { node, t, back: 0 },
+            Some(stamp) if fresh(stamp, u64::from(t)) => Step::Tick,
+            Some(_) => Step::ResendTimeout { node, t },
+        })
     }
 
     /// Mostly the action that the breaker has not, mostly with the next number.

@@ -27,7 +27,7 @@ unfoldable pub changedBy : Breaker → Phase → Dts → Event → Changed
 changedBy breaker phase t (Report status number) = reported phase t status number
 changedBy breaker phase t (Deliver sender status T) = unchanged phase
 changedBy breaker phase t ShareTimeout = shareTimedOut phase t
-changedBy breaker phase t ResendTimeout = resendTimedOut phase
+changedBy breaker phase t ResendTimeout = resendTimedOut phase t
 changedBy breaker phase t (Ack back) = ackedBy phase (changeAt breaker back)
 changedBy breaker phase t Query = queried phase (breaker .pair)
 

@@ -33,7 +33,7 @@ pub fn change(breaker: Breaker, phase: Phase, t: Dts, event: Event) -> Changed
             stamp: _,
         } => events::unchanged(phase),
         Event::ShareTimeout => events::share_timeout(phase, t),
-        Event::ResendTimeout => events::resend_timeout(phase),
+        Event::ResendTimeout => events::resend_timeout(phase, t),
         Event::Ack { back } => {
             let known = breaker::change_at(breaker, back);
             ack(phase, known)

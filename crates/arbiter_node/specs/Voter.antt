@@ -1,5 +1,6 @@
 -- A node of the Arbiter Protocol. "Nodes keep no shares and send (status, t) straight to the breaker, on the reports at which a Peer node shares and on each share
--- timeout" (§3 of 02): it is 01's node, of which the phase is kept and the last clock, with no stamp being resent.
+-- timeout" (§3 of 02): it is 01's node, of which the phase is kept and the last clock, with no stamp being resent. It sends no command, and so has no
+-- second pair that it could return to (§9 of 02).
 use Prim.Native.Nat.{ℕ}
 use Rattle.time.specs.declared.Dts.{Dts}
 use Rattle.store.specs.Store.{empty}
@@ -22,10 +23,11 @@ use Rattle.arbiter_node.specs.declared.Voted.{Voted}
 
 -- ---- the two kinds of node
 
+-- as 01's phase it has b itself for the second pair, against which 16 has nothing
 abbrev pub phaseInPeer : Phase → PeerPhase
 phaseInPeer Down = Peer.Down
-phaseInPeer (Starting l) = Peer.Starting l
-phaseInPeer (Running heard) = Peer.Running (record { r = heard .r; b = heard .b; number = heard .number; resend = Off })
+phaseInPeer (Starting l) = Peer.Starting (record { r = l .r; b = l .b; second = l .b; number = l .number })
+phaseInPeer (Running heard) = Peer.Running (record { r = heard .r; b = heard .b; second = Yes (heard .b); number = heard .number; resend = Off })
 
 -- the node as 01's, which holds nothing and resends nothing
 abbrev pub inPeer : Voter → Node
@@ -33,10 +35,10 @@ inPeer voter = record { phase = phaseInPeer (voter .phase); store = empty (voter
 
 abbrev pub ofPeerPhase : PeerPhase → Phase
 ofPeerPhase Peer.Down = Down
-ofPeerPhase (Peer.Starting l) = Starting l
+ofPeerPhase (Peer.Starting l) = Starting (record { r = l .r; b = l .b; number = l .number })
 ofPeerPhase (Peer.Running rec) = Running (record { r = rec .r; b = rec .b; number = rec .number })
 
--- 01's node without its shares, and without what it resends
+-- 01's node without its shares, its second pair and what it resends
 abbrev pub ofPeer : Node → Voter
 ofPeer node = record { phase = ofPeerPhase (node .phase); clock = node .store .clock }
 

@@ -17,6 +17,13 @@ ghost use mathlib.Core.Path.{_≡_};
 ghost use Rattle.effects.specs.Effects.{firstRecord};
 ghost use Rattle.arbiter_node.specs.Voter.{phaseInPeer, inPeer, ofPeerPhase, ofPeer, firstOf, voted};
 
+// What a starting node has learned so far. It sends no command when it runs, and so has no second pair (§9 of 02).
+pub struct Learning {
+    pub r: Known,
+    pub b: Known,
+    pub number: Last,
+}
+
 // What a running node knows.
 pub struct Heard {
     pub r: Pair,
@@ -26,7 +33,7 @@ pub struct Heard {
 
 pub enum Phase {
     Down,
-    Starting(Learned),
+    Starting(Learning),
     Running(Heard),
 }
 
@@ -42,12 +49,23 @@ pub struct Voted {
     pub message: Known,
 }
 
+// As 01's node it has b itself for its second pair, against which 16 has nothing.
 fn phase_in_peer(phase: Phase) -> node::Phase
     ensures { λ out. ⌜ out ≡ phaseInPeer phase ⌝ }
 {
     match phase {
         Phase::Down => node::Phase::Down,
-        Phase::Starting(learned) => node::Phase::Starting(learned),
+        Phase::Starting(learning) => {
+            let r = learning.r;
+            let b = learning.b;
+            let number = learning.number;
+            node::Phase::Starting(Learned {
+                r,
+                b,
+                second: b,
+                number,
+            })
+        }
         Phase::Running(heard) => {
             let r = heard.r;
             let b = heard.b;
@@ -55,6 +73,7 @@ fn phase_in_peer(phase: Phase) -> node::Phase
             node::Phase::Running(Record {
                 r,
                 b,
+                second: Known::Yes(b),
                 number,
                 resend: Resend::Off,
             })
@@ -67,7 +86,12 @@ fn of_peer_phase(phase: node::Phase) -> Phase
 {
     match phase {
         node::Phase::Down => Phase::Down,
-        node::Phase::Starting(learned) => Phase::Starting(learned),
+        node::Phase::Starting(learned) => {
+            let r = learned.r;
+            let b = learned.b;
+            let number = learned.number;
+            Phase::Starting(Learning { r, b, number })
+        }
         node::Phase::Running(rec) => {
             let r = rec.r;
             let b = rec.b;
@@ -88,7 +112,7 @@ pub fn in_peer_site(voter: Voter) -> Node
     }
 }
 
-// A node of 01's without its shares, and without what it resends.
+// A node of 01's without its shares, its second pair and what it resends.
 pub fn of_peer(node: Node) -> Voter
     ensures { λ out. ⌜ out ≡ ofPeer node ⌝ }
 {

@@ -25,7 +25,7 @@ use Rattle.node.specs.State.{attempts}
 abbrev pub commanding : Record → Earliest → Combined
 commanding rec (Stamp T) =
     record {
-      rec = record { r = rec .r; b = pair (rec .r .status) T; number = rec .number; resend = Armed T };
+      rec = record { r = rec .r; b = pair (rec .r .status) T; second = rec .second; number = rec .number; resend = Armed T };
       command = Yes (pair (rec .r .status) T);
     }
 commanding rec Nothing = record { rec = rec; command = No }

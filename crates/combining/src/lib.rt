@@ -31,6 +31,7 @@ fn command(rec: Record, stamp: Dts) -> Combined
     ensures { λ out. ⌜ out ≡ commanding rec (Earliest.Stamp stamp) ⌝ }
 {
     let r = rec.r;
+    let second = rec.second;
     let number = rec.number;
     let sent = Pair {
         status: r.status,
@@ -39,6 +40,7 @@ fn command(rec: Record, stamp: Dts) -> Combined
     let next = Record {
         r,
         b: sent,
+        second,
         number,
         resend: Resend::Armed(stamp),
     };

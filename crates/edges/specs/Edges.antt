@@ -30,13 +30,13 @@ use Rattle.effects.specs.Effects.{startedSite, withMade, commanded, effectOf}
 use Rattle.stepping.specs.Steps.{stepped}
 
 -- "Status 0 is CLOSE, 1 is TRIP."
-abbrev CLOSE : ℕ
+abbrev pub CLOSE : ℕ
 CLOSE = 0
 
-abbrev TRIP : ℕ
+abbrev pub TRIP : ℕ
 TRIP = 1
 
-abbrev at : ℕ → Dts
+abbrev pub at : ℕ → Dts
 at n = record { 0 = n }
 
 abbrev micros : ℕ → Micros
@@ -65,7 +65,7 @@ abbrev command : Dts → ℕ → Dts → Step
 command t A T = AtBreaker t (record { status = A; stamp = T })
 
 -- f = 1, k = 0, node 2 compromised, the breaker (CLOSE, 100), g = 100; node 0 has shared TRIP at 100 and at 101
-abbrev site : Site
+abbrev pub site : Site
 site =
     withMade (startedSite (beginning 1 0 4 CLOSE (at 100))) (put (put (empty (at 100)) 0 TRIP (at 100)) 0 TRIP (at 101))
 

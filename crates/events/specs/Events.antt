@@ -3,7 +3,7 @@ use Prim.Native.Nat.{ℕ}
 use mathlib.Core.Bool.{not, _&&_, cond}
 use lib.Dec.{leb}
 use Rattle.time.specs.declared.Dts.{Dts}
-use Rattle.time.specs.Fresh.{next}
+use Rattle.time.specs.Fresh.{next, fresh}
 use Rattle.time.specs.Larger.{larger}
 use Rattle.store.specs.declared.Store.{Store}
 use Rattle.store.specs.Store.{empty, movedTo}
@@ -32,7 +32,7 @@ unchanged phase = record { phase = phase; shares = Zero; command = No }
 -- ---- start-up: "When r and b are both known it runs, its store empty; that step shares nothing."
 
 abbrev bothKnown : Known → Known → Learned → Phase
-bothKnown (Yes r) (Yes b) l = Running (record { r = r; b = b; number = l .number; resend = Off })
+bothKnown (Yes r) (Yes b) l = Running (record { r = r; b = b; second = l .second; number = l .number; resend = Off })
 bothKnown (Yes r) No l = Starting l
 bothKnown No b l = Starting l
 
@@ -71,13 +71,13 @@ reportShares old r b t = cond (not (attempts old b) && attempts r b) (Two (pair 
 unfoldable pub reportRunning : Record → Pair → Dts → ℕ → Changed
 reportRunning rec r t number =
     record {
-      phase = Running (record { r = r; b = rec .b; number = Number number; resend = kept rec r (rec .b) });
+      phase = Running (record { r = r; b = rec .b; second = rec .second; number = Number number; resend = kept rec r (rec .b) });
       shares = reportShares (rec .r) r (rec .b) t;
       command = No;
     }
 
 unfoldable pub reportStarting : Learned → Pair → ℕ → Changed
-reportStarting l r number = begun (record { r = Yes r; b = l .b; number = Number number })
+reportStarting l r number = begun (record { r = Yes r; b = l .b; second = l .second; number = Number number })
 
 unfoldable pub reported : Phase → Dts → ℕ → ℕ → Changed
 reported Down t status number = unchanged Down
@@ -91,23 +91,42 @@ shareTimedOut Down t = unchanged Down
 shareTimedOut (Starting l) t = unchanged (Starting l)
 shareTimedOut (Running rec) t = record { phase = Running rec; shares = One (pair (rec .r .status) t); command = No }
 
--- ---- Resend timeout: "Sends that command (b's status, that stamp) again."
+-- ---- Resend timeout: "Sends that command (b's status, that stamp) again." And, with the stamp no longer fresh (§9 of 02): "On a resend timeout when the
+-- stamp is no longer fresh, b returns to that pair, the old command is not sent, resend is disarmed, and the state is read afresh, with 01's combining rule at
+-- the end."
 
-abbrev pub again : Resend → Pair → Known
-again (Armed T) b = Yes (pair (b .status) T)
-again Off b = No
+abbrev pub sentAgain : Record → Dts → Changed
+sentAgain rec T = record { phase = Running rec; shares = Zero; command = Yes (pair (rec .b .status) T) }
 
-unfoldable pub resendTimedOut : Phase → Changed
-resendTimedOut Down = unchanged Down
-resendTimedOut (Starting l) = unchanged (Starting l)
-resendTimedOut (Running rec) = record { phase = Running rec; shares = Zero; command = again (rec .resend) (rec .b) }
+-- "that pair" is the second; a running record without one is refused with 16, and comes to no event
+abbrev pub returned : Known → Pair → Pair
+returned (Yes second) b = second
+returned No b = b
+
+unfoldable pub givenUp : Record → Changed
+givenUp rec =
+    record {
+      phase = Running (record { r = rec .r; b = returned (rec .second) (rec .b); second = rec .second; number = rec .number; resend = Off });
+      shares = Zero;
+      command = No;
+    }
+
+abbrev pub resentAs : Resend → Record → Dts → Changed
+resentAs (Armed T) rec t = cond (fresh T t) (sentAgain rec T) (givenUp rec)
+resentAs Off rec t = unchanged (Running rec)
+
+unfoldable pub resendTimedOut : Phase → Dts → Changed
+resendTimedOut Down t = unchanged Down
+resendTimedOut (Starting l) t = unchanged (Starting l)
+resendTimedOut (Running rec) t = resentAs (rec .resend) rec t
 
 -- ---- Ack: "If its stamp ≥ b's stamp, b becomes that change; a later-arriving older one leaves b."
 
 abbrev pub later : Pair → Pair → Pair
 later b change = cond (leb (b .stamp .0) (change .stamp .0)) change b
 
--- "With no b, any ack sets it."
+-- "With no b, any ack sets it." And the second pair (§9 of 02): "A query sets it, and so does an ack when there is none yet or its stamp is not below the
+-- pair's"
 abbrev pub laterThan : Known → Pair → Pair
 laterThan (Yes b) change = later b change
 laterThan No change = change
@@ -119,24 +138,32 @@ ackResend rec b change = cond (same change (rec .b)) Off (kept rec (rec .r) b)
 unfoldable pub ackRunning : Record → Pair → Changed
 ackRunning rec change =
     record {
-      phase = Running (record { r = rec .r; b = later (rec .b) change; number = rec .number; resend = ackResend rec (later (rec .b) change) change });
+      phase =
+          Running
+          (record {
+            r = rec .r;
+            b = later (rec .b) change;
+            second = Yes (laterThan (rec .second) change);
+            number = rec .number;
+            resend = ackResend rec (later (rec .b) change) change;
+          });
       shares = Zero;
       command = No;
     }
 
 unfoldable pub ackStarting : Learned → Pair → Changed
-ackStarting l change = begun (record { r = l .r; b = Yes (laterThan (l .b) change); number = l .number })
+ackStarting l change = begun (record { r = l .r; b = Yes (laterThan (l .b) change); second = Yes (laterThan (l .second) change); number = l .number })
 
 unfoldable pub acked : Phase → Pair → Changed
 acked Down change = unchanged Down
 acked (Starting l) change = ackStarting l change
 acked (Running rec) change = ackRunning rec change
 
--- ---- Query (starting nodes only): "b becomes the breaker's status and stamp now."
+-- ---- Query (starting nodes only): "b becomes the breaker's status and stamp now", and so does the second pair
 
 unfoldable pub queried : Phase → Pair → Changed
 queried Down breaker = unchanged Down
-queried (Starting l) breaker = begun (record { r = l .r; b = Yes breaker; number = l .number })
+queried (Starting l) breaker = begun (record { r = l .r; b = Yes breaker; second = Yes breaker; number = l .number })
 queried (Running rec) breaker = unchanged (Running rec)
 
 -- ---- "Down loses the record. Up makes a down node a starting one, with no clock yet."
@@ -148,4 +175,4 @@ unfoldable pub wentDown : Node
 wentDown = record { phase = Down; store = empty noClock }
 
 unfoldable pub wentUp : Node
-wentUp = record { phase = Starting (record { r = No; b = No; number = Unknown }); store = empty noClock }
+wentUp = record { phase = Starting (record { r = No; b = No; second = No; number = Unknown }); store = empty noClock }

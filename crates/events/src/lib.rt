@@ -15,7 +15,7 @@ use pairs::Pairs;
 use store::Store;
 use time::Dts;
 ghost use mathlib.Core.Path.{_≡_};
-ghost use Rattle.events.specs.Events.{unchanged, onceKnown, begun, storeAt, kept, reportStamp, reportShares, reportRunning, reportStarting, reportR, reported, shareTimedOut, again, resendTimedOut, later, laterThan, ackResend, ackRunning, ackStarting, acked, queried, wentDown, wentUp};
+ghost use Rattle.events.specs.Events.{unchanged, onceKnown, begun, storeAt, kept, reportStamp, reportShares, reportRunning, reportStarting, reportR, reported, shareTimedOut, sentAgain, returned, givenUp, resendTimedOut, later, laterThan, ackResend, ackRunning, ackStarting, acked, queried, wentDown, wentUp};
 
 // An event that leaves the phase, and sends nothing.
 pub fn unchanged(phase: Phase) -> Changed
@@ -34,6 +34,7 @@ fn join(learned: Learned) -> Phase
 {
     let known_r = learned.r;
     let known_b = learned.b;
+    let second = learned.second;
     let number = learned.number;
     let Known::Yes(r) = known_r else {
         return Phase::Starting(learned);
@@ -44,6 +45,7 @@ fn join(learned: Learned) -> Phase
     Phase::Running(Record {
         r,
         b,
+        second,
         number,
         resend: Resend::Off,
     })
@@ -125,10 +127,12 @@ fn report_running(rec: Record, r: Pair, t: Dts, number: u32) -> Changed
     ensures { λ out. ⌜ out ≡ reportRunning rec r t number ⌝ }
 {
     let b = rec.b;
+    let second = rec.second;
     let resend = keep_resend(rec, r, b);
     let next = Record {
         r,
         b,
+        second,
         number: Last::Number(number),
         resend,
     };
@@ -144,9 +148,11 @@ fn report_starting(learned: Learned, r: Pair, number: u32) -> Changed
     ensures { λ out. ⌜ out ≡ reportStarting learned r number ⌝ }
 {
     let b = learned.b;
+    let second = learned.second;
     begin(Learned {
         r: Known::Yes(r),
         b,
+        second,
         number: Last::Number(number),
     })
 }
@@ -179,35 +185,71 @@ pub fn share_timeout(phase: Phase, t: Dts) -> Changed
     }
 }
 
-// The command that is sent again.
-fn again(resend: Resend, b: Pair) -> Known
-    ensures { λ out. ⌜ out ≡ again resend b ⌝ }
+// The command that is sent again, while its stamp is fresh.
+fn send_again(rec: Record, stamp: Dts) -> Changed
+    ensures { λ out. ⌜ out ≡ sentAgain rec stamp ⌝ }
 {
-    match resend {
-        Resend::Armed(stamp) => Known::Yes(Pair {
-            status: b.status,
-            stamp,
-        }),
-        Resend::Off => Known::No,
+    let command = Pair {
+        status: rec.b.status,
+        stamp,
+    };
+    Changed {
+        phase: Phase::Running(rec),
+        shares: Pairs::Zero,
+        command: Known::Yes(command),
     }
 }
 
-pub fn resend_timeout(phase: Phase) -> Changed
-    ensures { λ out. ⌜ out ≡ resendTimedOut phase ⌝ }
+// b as it was acknowledged or queried; 16 lets no running record pass that has no second pair.
+fn return_to(second: Known, b: Pair) -> Pair
+    ensures { λ out. ⌜ out ≡ returned second b ⌝ }
+{
+    match second {
+        Known::Yes(pair) => pair,
+        Known::No => b,
+    }
+}
+
+// The stamp being resent is given up.
+fn give_up(rec: Record) -> Changed
+    ensures { λ out. ⌜ out ≡ givenUp rec ⌝ }
+{
+    let reported = rec.r;
+    let second = rec.second;
+    let number = rec.number;
+    let b = return_to(second, rec.b);
+    let disarmed = Resend::Off;
+    let next = Record {
+        r: reported,
+        b,
+        second,
+        number,
+        resend: disarmed,
+    };
+    Changed {
+        phase: Phase::Running(next),
+        shares: Pairs::Zero,
+        command: Known::No,
+    }
+}
+
+pub fn resend_timeout(phase: Phase, t: Dts) -> Changed
+    ensures { λ out. ⌜ out ≡ resendTimedOut phase t ⌝ }
 {
     let Phase::Running(rec) = phase else {
         return unchanged(phase);
     };
     let resend = rec.resend;
-    let command = again(resend, rec.b);
-    Changed {
-        phase,
-        shares: Pairs::Zero,
-        command,
+    let Resend::Armed(stamp) = resend else {
+        return unchanged(phase);
+    };
+    if time::is_fresh(stamp, t) {
+        return send_again(rec, stamp);
     }
+    give_up(rec)
 }
 
-// b after an ack: an older change leaves it.
+// b after an ack, and so the second pair: an older change leaves it.
 fn later(b: Pair, change: Pair) -> Pair
     ensures { λ out. ⌜ out ≡ later b change ⌝ }
 {
@@ -243,11 +285,14 @@ fn ack_running(rec: Record, change: Pair) -> Changed
 {
     let r = rec.r;
     let number = rec.number;
+    let known = rec.second;
     let b = later(rec.b, change);
+    let second = later_than(known, change);
     let resend = ack_resend(rec, b, change);
     let next = Record {
         r,
         b,
+        second: Known::Yes(second),
         number,
         resend,
     };
@@ -263,11 +308,14 @@ fn ack_starting(learned: Learned, change: Pair) -> Changed
 {
     let r = learned.r;
     let number = learned.number;
-    let known = learned.b;
-    let b = later_than(known, change);
+    let known_b = learned.b;
+    let known = learned.second;
+    let b = later_than(known_b, change);
+    let second = later_than(known, change);
     begin(Learned {
         r,
         b: Known::Yes(b),
+        second: Known::Yes(second),
         number,
     })
 }
@@ -293,6 +341,7 @@ pub fn query(phase: Phase, breaker: Pair) -> Changed
     begin(Learned {
         r,
         b: Known::Yes(breaker),
+        second: Known::Yes(breaker),
         number,
     })
 }
@@ -314,6 +363,7 @@ pub fn up() -> Node
     let learned = Learned {
         r: Known::No,
         b: Known::No,
+        second: Known::No,
         number: Last::Unknown,
     };
     Node {

@@ -1,11 +1,13 @@
 -- What is asked of a node before an event reaches it.
-use Prim.Native.Nat.{ℕ}
+use Prim.Native.Nat.{ℕ, _≤_}
 use mathlib.Core.Bool.{Bool, true, false, _&&_}
+use lib.Dec.{leb}
 use Rattle.time.specs.Newer.{newer}
 use Rattle.time.specs.Limits.{stampSound, clockSound}
 use Rattle.store.specs.Store.{storeWithin}
 use Rattle.pairs.specs.declared.Known.{Known}
 use Rattle.pairs.specs.declared.Known.the-variants.{Yes, No}
+use Rattle.pairs.specs.Pair.{isKnown}
 use Rattle.node.specs.declared.Last.{Last}
 use Rattle.node.specs.declared.Last.the-variants.{Number, Unknown}
 use Rattle.node.specs.declared.Learned.{Learned}
@@ -52,6 +54,12 @@ abbrev pub knownB : Phase → Known
 knownB Down = No
 knownB (Starting l) = l .b
 knownB (Running rec) = Yes (rec .b)
+
+-- "Its record gains a second pair: the breaker's status and stamp as acknowledged or queried." (§9 of 02)
+abbrev pub knownSecond : Phase → Known
+knownSecond Down = No
+knownSecond (Starting l) = l .second
+knownSecond (Running rec) = rec .second
 
 -- the stamp being resent, if one is
 abbrev pub resending : Phase → Resend
@@ -106,15 +114,38 @@ resendSound (Armed T) = stampSound T
 resendSound Off = true
 
 abbrev pub learnedSound : Learned → Bool
-learnedSound l = knownSound (l .r) && knownSound (l .b)
+learnedSound l = knownSound (l .r) && knownSound (l .b) && knownSound (l .second)
 
 abbrev pub recordSound : Record → Bool
-recordSound rec = stampSound (rec .r .stamp) && stampSound (rec .b .stamp) && resendSound (rec .resend)
+recordSound rec = stampSound (rec .r .stamp) && stampSound (rec .b .stamp) && resendSound (rec .resend) && knownSound (rec .second)
 
-abbrev phaseSound : Phase → Bool
+abbrev pub phaseSound : Phase → Bool
 phaseSound Down = true
 phaseSound (Starting l) = learnedSound l
 phaseSound (Running rec) = recordSound rec
 
+unfoldable pub nodeInRange : Node → ℕ → Bool
+nodeInRange node n = clockSound (node .store .clock) && storeWithin (node .store) n && phaseSound (node .phase)
+
+-- "16 also for a record whose second pair has a stamp above b's, and for a running record with no second pair" (§9 of 02)
+
+-- its stamp is not above b's: where one of the two is not known, there is none to be above
+abbrev pub notAbove : Known → Known → Bool
+notAbove (Yes second) (Yes b) = leb (second .stamp .0) (b .stamp .0)
+notAbove (Yes second) No = true
+notAbove No b = true
+
+abbrev pub secondSound : Phase → Bool
+secondSound Down = true
+secondSound (Starting l) = notAbove (l .second) (l .b)
+secondSound (Running rec) = isKnown (rec .second) && notAbove (rec .second) (Yes (rec .b))
+
 unfoldable pub nodeSound : Node → ℕ → Bool
-nodeSound node n = clockSound (node .store .clock) && storeWithin (node .store) n && phaseSound (node .phase)
+nodeSound node n = nodeInRange node n && secondSound (node .phase)
+
+-- ---- "it is never above b's stamp" (§9 of 02), and it is known exactly where b is: of every node that came from a Start, which is more than 16 asks
+abbrev pub Follows : Known → Known → Type 0
+Follows (Yes second) (Yes b) = second .stamp .0 ≤ b .stamp .0
+Follows (Yes second) No = ⊥
+Follows No (Yes b) = ⊥
+Follows No No = Unit {0}

@@ -1,5 +1,6 @@
 // What is asked of a node before an event reaches it.
 use crate::Last;
+use crate::Learned;
 use crate::Node;
 use crate::Phase;
 use crate::Record;
@@ -10,8 +11,8 @@ use time::LAST_HELD_CLOCK;
 use time::LAST_HELD_STAMP;
 ghost use mathlib.Core.Path.{_≡_};
 ghost use Rattle.node.specs.State.{attempts};
-ghost use Rattle.pairs.specs.Pair.{same};
-ghost use Rattle.node.specs.Asked.{isDown, isStarting, isRunning, knownB, isNew, newAfter, inAttempt, armed, knownSound, resendSound, recordSound, nodeSound};
+ghost use Rattle.pairs.specs.Pair.{same, isKnown};
+ghost use Rattle.node.specs.Asked.{isDown, isStarting, isRunning, knownB, isNew, newAfter, inAttempt, armed, knownSound, resendSound, learnedSound, recordSound, nodeInRange, notAbove, secondSound, nodeSound};
 
 // Done: the relay's status is the breaker's.
 pub fn is_done(r: Pair, b: Pair) -> bool
@@ -159,12 +160,30 @@ fn is_record_sound(rec: Record) -> bool
     ensures { λ out. ⌜ out ≡ recordSound rec ⌝ }
 {
     let resend = rec.resend;
+    let second = rec.second;
     let resend_sound = is_resend_sound(resend);
-    (rec.r.stamp.0 <= LAST_HELD_STAMP) & (rec.b.stamp.0 <= LAST_HELD_STAMP) & resend_sound
+    let second_sound = is_known_sound(second);
+    (rec.r.stamp.0 <= LAST_HELD_STAMP)
+        & (rec.b.stamp.0 <= LAST_HELD_STAMP)
+        & resend_sound
+        & second_sound
 }
 
-pub fn is_sound(node: Node, n: u32) -> bool
-    ensures { λ out. ⌜ out ≡ nodeSound node n ⌝ }
+fn is_learned_sound(learned: Learned) -> bool
+    ensures { λ out. ⌜ out ≡ learnedSound learned ⌝ }
+{
+    let r = learned.r;
+    let b = learned.b;
+    let second = learned.second;
+    let r_sound = is_known_sound(r);
+    let b_sound = is_known_sound(b);
+    let second_sound = is_known_sound(second);
+    r_sound & b_sound & second_sound
+}
+
+// No step changes this part of what 16 asks.
+pub fn is_in_range(node: Node, n: u32) -> bool
+    ensures { λ out. ⌜ out ≡ nodeInRange node n ⌝ }
 {
     let phase = node.phase;
     let store = node.store;
@@ -173,15 +192,65 @@ pub fn is_sound(node: Node, n: u32) -> bool
     match phase {
         Phase::Down => held,
         Phase::Starting(learned) => {
-            let r = learned.r;
-            let b = learned.b;
-            let r_sound = is_known_sound(r);
-            let b_sound = is_known_sound(b);
-            held & r_sound & b_sound
+            let learned_sound = is_learned_sound(learned);
+            held & learned_sound
         }
         Phase::Running(rec) => {
             let record_sound = is_record_sound(rec);
             held & record_sound
         }
     }
+}
+
+// ---- the second pair
+
+// Where both are known, the second pair is no later than b.
+fn is_not_above(second: Known, b: Known) -> bool
+    ensures { λ out. ⌜ out ≡ notAbove second b ⌝ }
+{
+    let Known::Yes(pair) = second else {
+        return true;
+    };
+    match b {
+        Known::Yes(of_b) => pair.stamp.0 <= of_b.stamp.0,
+        Known::No => true,
+    }
+}
+
+fn is_known(second: Known) -> bool
+    ensures { λ out. ⌜ out ≡ isKnown second ⌝ }
+{
+    match second {
+        Known::Yes(_) => true,
+        Known::No => false,
+    }
+}
+
+pub fn is_second_sound(phase: Phase) -> bool
+    ensures { λ out. ⌜ out ≡ secondSound phase ⌝ }
+{
+    match phase {
+        Phase::Down => true,
+        Phase::Starting(learned) => {
+            let second = learned.second;
+            let b = learned.b;
+            is_not_above(second, b)
+        }
+        Phase::Running(rec) => {
+            let second = rec.second;
+            let b = rec.b;
+            let has = is_known(second);
+            let below = is_not_above(second, Known::Yes(b));
+            has & below
+        }
+    }
+}
+
+pub fn is_sound(node: Node, n: u32) -> bool
+    ensures { λ out. ⌜ out ≡ nodeSound node n ⌝ }
+{
+    let phase = node.phase;
+    let in_range = is_in_range(node, n);
+    let second_sound = is_second_sound(phase);
+    in_range & second_sound
 }

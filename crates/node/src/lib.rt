@@ -13,10 +13,11 @@ pub enum Last {
     Unknown,
 }
 
-// What a starting node has learned so far.
+// What a starting node has learned so far. The second pair is the breaker's status and stamp as acknowledged or queried.
 pub struct Learned {
     pub r: Known,
     pub b: Known,
+    pub second: Known,
     pub number: Last,
 }
 
@@ -26,10 +27,11 @@ pub enum Resend {
     Off,
 }
 
-// What a running node knows.
+// What a running node knows. The second pair may be missing in a record that is lent: 16 says what then.
 pub struct Record {
     pub r: Pair,
     pub b: Pair,
+    pub second: Known,
     pub number: Last,
     pub resend: Resend,
 }
@@ -42,8 +44,8 @@ pub enum Phase {
 
 // The store's clock is the node's last clock, whatever its phase: 0 where it has none yet.
 pub struct Node {
-    pub phase: Phase,
     pub store: Store,
+    pub phase: Phase,
 }
 
 // What an event makes of a phase, before the combining rule: the phase afterwards, what it shares, and the command that it sends, if it sends one.

@@ -1,6 +1,6 @@
 -- A status with its stamp. "Status 0 is CLOSE, 1 is TRIP."
 use Prim.Native.Nat.{ℕ}
-use mathlib.Core.Bool.{Bool, false, _&&_, _||_}
+use mathlib.Core.Bool.{Bool, true, false, _&&_, _||_}
 use mathlib.Core.List.{List, [], _∷_}
 use lib.Dec.{eqb}
 use Rattle.time.specs.declared.Dts.{Dts}
@@ -15,6 +15,11 @@ pair status T = record { status = status; stamp = T }
 
 abbrev pub same : Pair → Pair → Bool
 same p q = eqb (p .status) (q .status)
+
+-- it is known
+abbrev pub isKnown : Known → Bool
+isKnown (Yes p) = true
+isKnown No = false
 
 -- as lists
 abbrev pub listed : Pairs → List Pair

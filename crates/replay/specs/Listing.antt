@@ -15,7 +15,7 @@ use Rattle.senders.specs.Masks.{isIn, size, joined, together, within}
 use Rattle.store.specs.Store.{empty, put, placeOf, movedTo, turn, leftAt, hasPlace, sendersOf, storeWithin}
 use Rattle.store.specs.Held.{held}
 use Rattle.store.specs.Earliest.{earliest, qualifies}
-use Rattle.node.specs.Asked.{nodeSound}
+use Rattle.node.specs.Asked.{nodeInRange, nodeSound}
 use Rattle.node.specs.State.{state}
 use Rattle.combining.specs.Combining.{combined, putAll, finished}
 use Rattle.events.specs.Events.{begun, reported, reportRunning, reportStarting, reportShares, kept, shareTimedOut, resendTimedOut, ackResend, ackRunning, ackStarting, acked, queried, wentDown, wentUp}
@@ -182,7 +182,7 @@ cutOutput = ascii "1 0 C 100 -\n" ++ ascii "2 17 C 100 -\n"
 -- ---- what they print
 
 computed : Computes listing listed output × Computes everyKind ofEveryKind everyOutput × Computes cut cutSteps cutOutput
-unfolding firstRun applied stepLine overAfter malformedLine nextTurn nextIn advanced ranOf taken takenIn openedAs readAt numberAt isVersion kindIn fieldValues outOf tableAfter stepped testsOf effectOf refusal passed startedSite firstRecord madeFirst table empty started act finished combined putAll acted changedBy stored reported reportRunning reportStarting reportShares kept queried shareTimedOut resendTimedOut acked ackStarting ackRunning ackResend wentDown wentUp begun ticked turned movedTo turn leftAt put placeOf held sendersOf hasPlace storeWithin earliest qualifies next siteSound setsSound actorSound nodeSound breakerSound changesSound afterCommand answered changed changeAt remembered commanded newer ahead size countBelow isIn joined within together state lineOf tailText afterCommas decimal spelled placesIn
+unfolding firstRun applied stepLine overAfter malformedLine nextTurn nextIn advanced ranOf taken takenIn openedAs readAt numberAt isVersion kindIn fieldValues outOf tableAfter stepped testsOf effectOf refusal passed startedSite firstRecord madeFirst table empty started act finished combined putAll acted changedBy stored reported reportRunning reportStarting reportShares kept queried shareTimedOut resendTimedOut acked ackStarting ackRunning ackResend wentDown wentUp begun ticked turned movedTo turn leftAt put placeOf held sendersOf hasPlace storeWithin earliest qualifies next siteSound setsSound actorSound nodeInRange nodeSound breakerSound changesSound afterCommand answered changed changeAt remembered commanded newer ahead size countBelow isIn joined within together state lineOf tailText afterCommas decimal spelled placesIn
 computed = ((refl, refl, refl), (refl, refl, refl), (refl, refl, refl))
 
 pub listing-prints : Whole listing listed output

@@ -24,8 +24,8 @@ use Rattle.pairs.specs.declared.Known.the-variants.{Yes, No}
 use Rattle.pairs.specs.declared.Pairs.the-variants.{Zero, One, Two}
 use Rattle.pairs.specs.Pair.{pair, listed}
 use Rattle.node.specs.declared.Last.the-variants.{Number}
-use Rattle.node.specs.declared.Resend.the-variants.{Armed}
-use Rattle.node.specs.Asked.{nodeSound}
+use Rattle.node.specs.declared.Resend.the-variants.{Armed, Off}
+use Rattle.node.specs.Asked.{nodeInRange, nodeSound}
 use Rattle.combining.specs.Combining.{combined, putAll, finished}
 use Rattle.events.specs.Events.{begun, reported, reportRunning, reportStarting, reportShares, kept, queried, wentDown, wentUp}
 use Rattle.acting.specs.Acting.{changedBy, stored, acted}
@@ -38,7 +38,8 @@ use Rattle.refusing.specs.Tests.{testsOf}
 use Rattle.stepping.specs.Steps.{stepped}
 use Rattle.lent.specs.Lent.{outOf, tableAfter}
 use Rattle.steps.specs.declared.Beginning.{Beginning}
-use Rattle.steps.specs.declared.Event.the-variants.{Report, Deliver, Query}
+use Rattle.steps.specs.declared.Event.the-variants.{Report, Deliver, ResendTimeout, Query}
+use Rattle.told.specs.Telling.{Knows}
 use Rattle.steps.specs.declared.Step.{Step}
 use Rattle.steps.specs.declared.Step.the-variants.{Start, Tick, AtNode, AtBreaker}
 use Rattle.turns.specs.Turns.{firstRun}
@@ -108,7 +109,7 @@ abbrev pub happened : List Accepted
 happened = doneWith 11 (command 102 0 102) (onlyAck (pair 0 (stamp 102))) ∷ delivery ∷ beforeDelivery
 
 pub has-happened : (lastStart history ≡ some start) × (accepted history ≡ happened)
-unfolding firstRun outOf tableAfter stepped testsOf effectOf refusal passed startedSite firstRecord table empty started act ticked finished combined putAll acted changedBy stored reported reportRunning reportStarting reportShares kept queried wentDown wentUp begun movedTo turn leftAt put held sendersOf hasPlace storeWithin earliest qualifies next siteSound setsSound actorSound nodeSound breakerSound changesSound afterCommand answered changed remembered commanded newer ahead size countBelow isIn joined within together
+unfolding firstRun outOf tableAfter stepped testsOf effectOf refusal passed startedSite firstRecord table empty started act ticked finished combined putAll acted changedBy stored reported reportRunning reportStarting reportShares kept queried wentDown wentUp begun movedTo turn leftAt put held sendersOf hasPlace storeWithin earliest qualifies next siteSound setsSound actorSound nodeInRange nodeSound breakerSound changesSound afterCommand answered changed remembered commanded newer ahead size countBelow isIn joined within together
 has-happened = (refl, refl)
 
 -- ---- the four parts
@@ -155,6 +156,18 @@ sent-at-once =
     ((pair 0 (stamp 102), refl, refl, refl, refl), (refl, lit< tt, omega (arith, two)), refl)
 
 -- What the history tells, at the end: of node 0, of the site clock and of the breaker.
-pub told-so : (toldTo start 0 happened ≡ record { r = Yes (pair 0 (stamp 102)); b = Yes (pair 0 (stamp 102)); number = Number 3; resend = Armed (stamp 102) })
-    × (siteClock start happened ≡ 102) × (breakerPair start happened ≡ pair 0 (stamp 102))
+abbrev pub knowsThen : Knows
+knowsThen =
+    record { r = Yes (pair 0 (stamp 102)); b = Yes (pair 0 (stamp 102)); second = Yes (pair 0 (stamp 100)); number = Number 3; resend = Armed (stamp 102) }
+
+pub told-so : (toldTo start 0 happened ≡ knowsThen) × (siteClock start happened ≡ 102) × (breakerPair start happened ≡ pair 0 (stamp 102))
 told-so = (refl, refl, refl)
+
+-- No ack came to it. A resend timeout at clock 104 sends the command again; at clock 105 the stamp is no longer fresh, and b returns to what the query said.
+abbrev timedOut : ℕ → Sent → List Accepted
+timedOut t sent = doneWith 15 (AtNode 0 (stamp t) ResendTimeout) sent ∷ happened
+
+pub given-up : (toldTo start 0 (timedOut 104 (sends (pair 0 (stamp 102)))) ≡ knowsThen)
+    × (toldTo start 0 (timedOut 105 silence)
+    ≡ record { r = Yes (pair 0 (stamp 102)); b = Yes (pair 0 (stamp 100)); second = Yes (pair 0 (stamp 100)); number = Number 3; resend = Off })
+given-up = (refl, refl)

@@ -17,11 +17,12 @@ use Rattle.turns.specs.Blocks.{ranOf, Block}
 use Rattle.sequences.specs.History.{Entry, lastStart}
 use Rattle.sequences.specs.Moments.{Reached, from, Accepts}
 use Rattle.sequences.specs.Demand.{AtMostF, StatusAsTold, SharedByACorrectNode, StampsRise, RunsAsTold, HeldExactly, SendsAtOnce, NoneLeft}
-use Rattle.sequences.specs.State.{StateAsTold, SentAsTold, NeverDamaged}
+use Rattle.sequences.specs.State.{StateAsTold, SentAsTold, NeverDamaged, NeverAbove, LatestHeard}
 use Rattle.sequences.specs.laws.Started.{started-before}
 use Rattle.sequences.specs.laws.AsTold.{state-as-told}
 use Rattle.sequences.specs.laws.SentTold.{sent-as-told, sends-at-once}
-use Rattle.sequences.specs.laws.Soundness.{never-damaged}
+use Rattle.sequences.specs.laws.Soundness.{never-damaged, never-above}
+use Rattle.sequences.specs.laws.Hearing.{latest-heard}
 use Rattle.sequences.specs.laws.Proved.{at-most-f, status-as-told, shared-by-a-correct-node, stamps-rise, runs-as-told, held-exactly, none-left}
 use Rattle.replay.specs.Replay.{momentOf, Prints, Whole, told, prints-reached}
 use Rattle.replay.specs.laws.Taken.{block-prints}
@@ -59,6 +60,9 @@ pub record Promised (h : List Entry) (run : Run) : Type 0 where
   pub state : (b : Beginning) → lastStart h ≡ some b → StateAsTold h (momentOf run) b
   pub sent : (b : Beginning) → lastStart h ≡ some b → SentAsTold h (momentOf run) b
   pub undamaged : (b : Beginning) → lastStart h ≡ some b → NeverDamaged h (momentOf run) b
+  -- and a node's second pair is never above b, and is the latest that it has heard
+  pub second-below : (b : Beginning) → lastStart h ≡ some b → NeverAbove h (momentOf run) b
+  pub second-latest : (b : Beginning) → lastStart h ≡ some b → LatestHeard h (momentOf run) b
 
 pub promised : (h : List Entry) (run : Run) → Replayed h run → Promised h run
 unfolding firstRun
@@ -76,6 +80,8 @@ promised h run r =
       state = state-as-told (momentOf firstRun) h (momentOf run) r;
       sent = sent-as-told (momentOf firstRun) h (momentOf run) r;
       undamaged = never-damaged (momentOf firstRun) h (momentOf run) r;
+      second-below = never-above (momentOf firstRun) h (momentOf run) r;
+      second-latest = latest-heard (momentOf firstRun) h (momentOf run) r;
     }
 
 -- and of the run over a whole log, with the history of the steps that it takes.

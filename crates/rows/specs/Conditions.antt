@@ -64,8 +64,23 @@ ChangesOutOfRange changes = (8 < changes .count) ⊎ ((k : ℕ) × (k < 8) × Pa
 -- what a starting node has learned, or a running one knows
 abbrev pub PhaseTooLate : Phase → Type 0
 PhaseTooLate NotUp = ⊥
-PhaseTooLate (Starting l) = KnownTooLate (l .r) ⊎ KnownTooLate (l .b)
-PhaseTooLate (Running rec) = StampTooLate (rec .r .stamp) ⊎ StampTooLate (rec .b .stamp) ⊎ ResendTooLate (rec .resend)
+PhaseTooLate (Starting l) = KnownTooLate (l .r) ⊎ KnownTooLate (l .b) ⊎ KnownTooLate (l .second)
+PhaseTooLate (Running rec) = StampTooLate (rec .r .stamp) ⊎ StampTooLate (rec .b .stamp) ⊎ ResendTooLate (rec .resend) ⊎ KnownTooLate (rec .second)
+
+-- "16 also for a record whose second pair has a stamp above b's, and for a running record with no second pair" (§9 of 02)
+abbrev pub SecondAbove : Known → Known → Type 0
+SecondAbove (Yes second) (Yes b) = b .stamp .0 < second .stamp .0
+SecondAbove (Yes second) No = ⊥
+SecondAbove No b = ⊥
+
+abbrev pub NoSecond : Known → Type 0
+NoSecond (Yes second) = ⊥
+NoSecond No = Unit {0}
+
+abbrev pub SecondOutOfOrder : Phase → Type 0
+SecondOutOfOrder NotUp = ⊥
+SecondOutOfOrder (Starting l) = SecondAbove (l .second) (l .b)
+SecondOutOfOrder (Running rec) = NoSecond (rec .second) ⊎ SecondAbove (rec .second) (Yes (rec .b))
 
 -- "any step but Start"
 abbrev pub NoStart : Option Beginning → Type 0
@@ -200,11 +215,11 @@ module _ (site : Site) (lent : ℕ) (node : Node) (the : Named) where
       ⊎ ChangesOutOfRange (site .breaker .changes)
 
   -- "the record of the acting node (for Deliver, the receiver), if that node is below n, holds a stamp or clock above 1,000,000,003 or a sender not
-  -- below n"
+  -- below n", or has a second pair out of order
   abbrev pub RecordOutOfRange : Type 0
   RecordOutOfRange =
       Of (the .actor) λ i.
-      (i < n site) × (ClockTooLate (nodeClock node) ⊎ SenderOutside (node .store) (n site) ⊎ PhaseTooLate (node .phase))
+      (i < n site) × (ClockTooLate (nodeClock node) ⊎ SenderOutside (node .store) (n site) ⊎ PhaseTooLate (node .phase) ⊎ SecondOutOfOrder (node .phase))
 
   -- "any step but Start"
   abbrev pub SiteOrRecordOutOfRange : Type 0

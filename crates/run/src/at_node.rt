@@ -50,7 +50,8 @@ pub fn take(
 {
     let status = shown_status(site);
     let stamp = shown_stamp(site);
-    let sound = is_fit(whole, fits, i);
+    let phase = node.phase;
+    let sound = is_fit(whole, fits, site.f, site.k, phase, i);
     let refusal = refusing::refuse_event(sound, site, node, i, t, event);
     if refusal != 0 {
         let old = site.made;

@@ -1,29 +1,36 @@
-// The verdict of 16 as a loop keeps it: one of the site, and a set of those records that pass.
+// The verdict of 16 as a loop keeps it: one of the site, and a set of those records that are in their ranges. The second pair is asked where a node acts.
 use node::Node;
+use node::Phase;
+use node::asked::is_in_range;
+use node::asked::is_second_sound;
 use site::Site;
-use site::sound::is_actor_sound;
+use site::sound::nodes;
 ghost use mathlib.Core.Path.{_≡_};
-ghost use mathlib.Core.Bool.{cond, _&&_};
+ghost use mathlib.Core.Bool.{cond, _&&_, _||_};
+ghost use lib.Dec.{leb};
 ghost use lib.ListN.{length};
 ghost use Rattle.senders.specs.Masks.{isIn, joined};
-ghost use Rattle.site.specs.Site.{actorSound};
-ghost use Rattle.starting.specs.laws.Judging.{kept, Judging};
+ghost use Rattle.node.specs.Asked.{secondSound};
+ghost use Rattle.site.specs.Site.{nodes};
+ghost use Rattle.starting.specs.laws.Judging.{kept, actorInRange, Judging};
 
 // How many records a run keeps.
 pub const RECORDS: u8 = 12;
 
-// The set of those records that 16 lets pass, with one more asked.
+// The set of those records that are in their ranges, with one more asked.
 fn with_fit(fits: u16, site: Site, node: Node, i: u8) -> u16
-    ensures { λ out. ⌜ out ≡ cond (actorSound site node i) (joined fits i) fits ⌝ }
+    ensures { λ out. ⌜ out ≡ cond (actorInRange site node i) (joined fits i) fits ⌝ }
 {
-    if is_actor_sound(site, node, i) {
+    let n = nodes(site.f, site.k);
+    let in_range = is_in_range(node, n);
+    if (n <= i as u32) | in_range {
         senders::join(fits, i)
     } else {
         fits
     }
 }
 
-// Which of the records 16 lets pass.
+// Which of the records are in their ranges.
 pub fn judge(site: Site, nodes: [Node; 12]) -> u16
     ensures { λ out. ⌜ (length nodes ≡ kept) × Judging site nodes kept out ⌝ }
 {
@@ -37,12 +44,16 @@ pub fn judge(site: Site, nodes: [Node; 12]) -> u16
     fits
 }
 
-// The verdict where node i acts.
-pub fn is_fit(whole: bool, fits: u16, i: u8) -> bool
-    ensures { λ out. ⌜ out ≡ (whole && isIn fits i) ⌝ }
+// The verdict where node i of a site acts, with the phase that it finds.
+pub fn is_fit(whole: bool, fits: u16, f: u8, k: u8, phase: Phase, i: u8) -> bool
+    ensures { λ out. ⌜ out ≡ (whole && isIn fits i && (leb (nodes f k) i || secondSound phase)) ⌝ }
 {
     let fit = senders::is_in(fits, i);
-    whole & fit
+    if is_second_sound(phase) {
+        return whole & fit;
+    }
+    let n = nodes(f, k);
+    whole & fit & (n <= i as u32)
 }
 
 // The refusal of a step of a node that has no record.

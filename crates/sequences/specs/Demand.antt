@@ -68,7 +68,7 @@ Rising (c ∷ before) = Each (BothStamps λ U. U .0 < c .stamp .0) before × Ris
 module _ (b : Beginning) (a : Accepted) (before : List Accepted) (j : ℕ) (t : Dts) (event : Event) where
   -- after the event the node attempts A, with p for the breaker's pair
   abbrev pub Attempts : ℕ → Pair → Type 0
-  Attempts A p = (r : Pair) × (rThen b before j t event ≡ Yes r) × (bThen b before j event ≡ Yes p) × (attempts r p ≡ true) × (A ≡ r .status)
+  Attempts A p = (r : Pair) × (rThen b before j t event ≡ Yes r) × (bThen b before j t event ≡ Yes p) × (attempts r p ≡ true) × (A ≡ r .status)
 
   -- T is "a fresh stamp above its breaker stamp", and "f+1 senders are held" for A
   abbrev pub HeldEnough : ℕ → Pair → Dts → Type 0

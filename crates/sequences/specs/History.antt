@@ -68,7 +68,7 @@ pub record Change : Type 0 where
 abbrev pub unlessHad : Bool → Change → List Change
 unlessHad had c = cond had [] (c ∷ [])
 
-abbrev changeBy : Step → Accepted → ℕ → List Accepted → List Change
+abbrev pub changeBy : Step → Accepted → ℕ → List Accepted → List Change
 changeBy (Start b) a had before = []
 changeBy Tick a had before = []
 changeBy (AtNode i t event) a had before = []

@@ -1,6 +1,6 @@
 -- The state is the history's: over every sequence, counted from the last accepted Start, each field of the site and of every record is what Told.antt says.
 -- And what is sent, and what a refused step leaves.
-use Prim.Native.Nat.{ℕ, _<_}
+use Prim.Native.Nat.{ℕ, _≤_, _<_}
 use mathlib.Core.Path.{_≡_}
 use mathlib.Core.Bool.{Bool, true, _&&_, cond}
 use mathlib.Core.List.{List, [], _∷_, _++_}
@@ -18,7 +18,7 @@ use Rattle.pairs.specs.Pair.{listed, listedKnown, has}
 use Rattle.node.specs.declared.Record.{Record}
 use Rattle.node.specs.declared.Resend.the-variants.{Armed}
 use Rattle.node.specs.declared.Phase.the-variants.{Running}
-use Rattle.node.specs.Asked.{isDown, isRunning}
+use Rattle.node.specs.Asked.{isDown, isRunning, knownB, knownSecond, Follows}
 use Rattle.events.specs.Events.{wentDown}
 use Rattle.steps.specs.declared.Beginning.{Beginning}
 use Rattle.steps.specs.declared.Step.{Step}
@@ -30,9 +30,9 @@ use Rattle.site.specs.declared.Answer.the-variants.{Done, Refused}
 use Rattle.site.specs.Site.{nodes, g}
 use Rattle.site.specs.Answers.{silence, numberOf}
 use Rattle.sequences.specs.History.{Entry, Accepted, accepted, isCompromised, atNode, runs, deliveries}
-use Rattle.sequences.specs.Told.{siteClock, breakerPair, breakerTold, toldTo, rThen, bThen, heldThen, sharesOf, isDownTold, lastClockTold}
+use Rattle.sequences.specs.Told.{siteClock, breakerPair, breakerTold, toldTo, heardTo, rThen, bThen, heldThen, sharesOf, isDownTold, lastClockTold}
 use Rattle.sequences.specs.Moments.{Moment, answerTo, afterStep, nodeAt, holds}
-use Rattle.sequences.specs.Demand.{Correct, EachStep}
+use Rattle.sequences.specs.Demand.{Correct, Each, EachStep}
 
 -- ---- the state, for a history h, the moment m to which it leads, and what its last accepted Start gave
 
@@ -59,7 +59,7 @@ module _ (h : List Entry) (m : Moment) (b : Beginning) where
     -- "A node is down, or starting up with what it has learned so far, or running with its full record."
     pub is-down : isDown (nodeAt m j) ≡ isDownTold (atNode j steps)
     pub is-running : isRunning (nodeAt m j) ≡ runs (atNode j steps)
-    -- r, b, the last state number, and the stamp being resent
+    -- r, b, the second pair, the last state number, and the stamp being resent
     pub knows : knownIn (nodeAt m j .phase) ≡ toldTo b j steps
     -- "the last clock"
     pub last-clock : nodeAt m j .store .clock ≡ lastClockTold (atNode j steps)
@@ -91,15 +91,15 @@ module _ (b : Beginning) (before : List Accepted) where
   sharesTold (Life i turn) = Zero
   sharesTold (AtBreaker t act) = Zero
 
-  -- it sends the command that is being resent, at a resend timeout, and that of the combining rule, for r, b and what is held after the event; nothing else sends
-  -- one
+  -- it sends the command that is being resent, at a resend timeout while its stamp is fresh, and that of the combining rule, for r, b and what is held after the
+  -- event; nothing else sends one
   abbrev pub commandsTold : Accepted → Step → List Pair
   commandsTold a (Start b′) = []
   commandsTold a Tick = []
   commandsTold a (AtNode j t event) =
-      listedKnown (againBy (saidBy event) (toldTo b j before .resend) (toldTo b j before .b))
+      listedKnown (againBy (saidBy event) t (toldTo b j before .resend) (toldTo b j before .b))
       ++ listedKnown
-      (combinedOf (nodes (b .f) (b .k)) (b .f) t (heldThen before a j t) (rThen b before j t event) (bThen b before j event))
+      (combinedOf (nodes (b .f) (b .k)) (b .f) t (heldThen before a j t) (rThen b before j t event) (bThen b before j t event))
   commandsTold a (Life i turn) = []
   commandsTold a (AtBreaker t act) = []
 
@@ -135,3 +135,17 @@ RefusedChangesNothing = (m : Moment) (step : Step) (number : ℕ) → answerTo m
 
 abbrev pub NeverDamaged : List Entry → Moment → Beginning → Type 0
 NeverDamaged h m b = (step : Step) → numberOf (answerTo m step) ≡ 16 → ⊥
+
+-- ---- "it is never above b's stamp" (§9 of 02): of every node the second pair is known exactly where b is, and its stamp is not above b's
+
+abbrev pub NeverAbove : List Entry → Moment → Beginning → Type 0
+NeverAbove h m b = (j : ℕ) → j < nodes (b .f) (b .k) → Follows (knownSecond (nodeAt m j .phase)) (knownB (nodeAt m j .phase))
+
+-- ---- The second pair is the latest, by its stamp, of what this life's acks and queries have said of the breaker; where they have said nothing there is none.
+
+abbrev pub IsLatest : List Pair → Known → Type 0
+IsLatest heard (Yes p) = (has heard (p .status) (p .stamp) ≡ true) × Each (λ q. q .stamp .0 ≤ p .stamp .0) heard
+IsLatest heard No = heard ≡ []
+
+abbrev pub LatestHeard : List Entry → Moment → Beginning → Type 0
+LatestHeard h m b = (j : ℕ) → Correct b (accepted h) j → IsLatest (heardTo b j (accepted h)) (knownSecond (nodeAt m j .phase))

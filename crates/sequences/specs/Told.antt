@@ -14,7 +14,7 @@ use Rattle.time.specs.Fresh.{fresh}
 use Rattle.pairs.specs.declared.Pair.{Pair}
 use Rattle.pairs.specs.declared.Known.{Known}
 use Rattle.pairs.specs.declared.Known.the-variants.{Yes, No}
-use Rattle.pairs.specs.Pair.{pair, listed, has}
+use Rattle.pairs.specs.Pair.{pair, listed, listedKnown, has}
 use Rattle.breaker.specs.declared.Changes.{Changes}
 use Rattle.breaker.specs.declared.Breaker.{Breaker}
 use Rattle.breaker.specs.Breaker.{mostChanges, noChange}
@@ -22,8 +22,8 @@ use Rattle.steps.specs.declared.Beginning.{Beginning}
 use Rattle.steps.specs.declared.Event.{Event}
 use Rattle.steps.specs.declared.Step.{Step}
 use Rattle.steps.specs.declared.Step.the-variants.{Start, Tick, AtNode, Life, AtBreaker}
-use Rattle.steps.specs.Named.{down, saidBy, saidByTurn, isKind}
-use Rattle.told.specs.Telling.{Knows, nothing, relayBy, heardBy, knowsAfter, lastOf}
+use Rattle.steps.specs.Named.{query, down, saidBy, saidByTurn, isKind}
+use Rattle.told.specs.Telling.{Knows, nothing, relayBy, breakerBy, knowsAfter, lastOf}
 use Rattle.sequences.specs.History.{Accepted, Change, changesIn, isAt, concerns, atNode, life, clock, runs, deliveries}
 
 -- ---- the site clock: "Tick adds 1 to g"
@@ -74,12 +74,24 @@ clockBy (Life i turn) t = t
 clockBy (AtBreaker u act) t = u
 
 -- what a step at a node leaves it told: an event as Telling says, for the breaker as it is then; a turn in its life, nothing
-abbrev knowsBy : Step → (ℕ → Known) → Pair → Known → Knows → Knows
+abbrev pub knowsBy : Step → (ℕ → Known) → Pair → Known → Knows → Knows
 knowsBy (Start b) change now sent k = k
 knowsBy Tick change now sent k = k
 knowsBy (AtNode i t event) change now sent k = knowsAfter (saidBy event) t change now sent k
 knowsBy (Life i turn) change now sent k = nothing
 knowsBy (AtBreaker t act) change now sent k = k
+
+-- what a step at a node says of the breaker, with what it has heard before; a turn in its life forgets that
+abbrev pub saidByAck : Option ℕ → (ℕ → Known) → List Pair
+saidByAck (some back) change = listedKnown (change back)
+saidByAck none change = []
+
+abbrev pub heardWith : Step → (ℕ → Known) → Pair → List Pair → List Pair
+heardWith (Start b) change now heard = heard
+heardWith Tick change now heard = heard
+heardWith (AtNode i t event) change now heard = cond (isKind (saidBy event .kind) query) (now ∷ []) (saidByAck (saidBy event .back) change) ++ heard
+heardWith (Life i turn) change now heard = []
+heardWith (AtBreaker t act) change now heard = heard
 
 -- for what the last Start gave
 module _ (b : Beginning) where
@@ -102,7 +114,8 @@ module _ (b : Beginning) where
   abbrev pub breakerTold : List Accepted → Breaker
   breakerTold steps = record { pair = breakerPair steps; clock = breakerClock steps; changes = changesOf (changePairs steps) }
 
-  -- what node j has been told, r, b, the last state number and the stamp being resent: by this life's reports, queries, acks and own commands, in their order
+  -- what node j has been told, r, b, the second pair, the last state number and the stamp being resent: by this life's reports, queries, acks, own commands and
+  -- timeouts, in their order
   abbrev pub toldTo : ℕ → List Accepted → Knows
   toldTo j [] = nothing
   toldTo j (a ∷ before) =
@@ -110,13 +123,18 @@ module _ (b : Beginning) where
       (knowsBy (a .step) (numberedOf (changePairs before)) (breakerPair before) (lastOf (listed (a .sent .commands))) (toldTo j before))
       (toldTo j before)
 
+  -- what node j has heard of the breaker in this life: by an ack the change that it brings, by a query the breaker's pair then
+  abbrev pub heardTo : ℕ → List Accepted → List Pair
+  heardTo j [] = []
+  heardTo j (a ∷ before) = cond (concerns j a) (heardWith (a .step) (numberedOf (changePairs before)) (breakerPair before) (heardTo j before)) (heardTo j before)
+
   -- r and b of node j, and who it holds for an action and a stamp, once an event at its clock t has happened and before the combining rule is applied: a is that
   -- step with what was sent in it
   abbrev pub rThen : List Accepted → ℕ → Dts → Event → Known
   rThen before j t event = relayBy (saidBy event) t (toldTo j before .b) (toldTo j before .r)
 
-  abbrev pub bThen : List Accepted → ℕ → Event → Known
-  bThen before j event = heardBy (saidBy event) (numberedOf (changePairs before)) (breakerPair before) (toldTo j before .b)
+  abbrev pub bThen : List Accepted → ℕ → Dts → Event → Known
+  bThen before j t event = breakerBy (saidBy event) t (numberedOf (changePairs before)) (breakerPair before) (toldTo j before)
 
 abbrev pub heldThen : List Accepted → Accepted → ℕ → Dts → ℕ → Dts → ℕ → Bool
 heldThen before a j t A T i = runs (atNode j before) && (has (deliveries i j (a ∷ atNode j before)) A T && fresh T t)

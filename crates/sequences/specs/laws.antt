@@ -12,7 +12,10 @@ pub mod StateTold
 pub mod AsTold
 pub mod SentTold
 pub mod AtOnce
+pub mod OneEvent
 pub mod Reporting
+pub mod GivingUp
+pub mod Hearing
 pub mod Relay
 pub mod Repeating
 pub mod Started

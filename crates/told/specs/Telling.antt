@@ -8,7 +8,7 @@ use mathlib.Core.Option.{Option, none, some}
 use lib.Dec.{eqb, leb, ltb}
 use Rattle.time.specs.declared.Dts.{Dts}
 use Rattle.time.specs.Larger.{larger}
-use Rattle.time.specs.Fresh.{next}
+use Rattle.time.specs.Fresh.{next, fresh}
 use Rattle.senders.specs.Sets.{countBelow}
 use Rattle.store.specs.declared.Earliest.{Earliest}
 use Rattle.store.specs.declared.Earliest.the-variants.{Stamp, Nothing}
@@ -25,18 +25,20 @@ use Rattle.node.specs.declared.Last.the-variants.{Number, Unknown}
 use Rattle.node.specs.declared.Resend.{Resend}
 use Rattle.node.specs.declared.Resend.the-variants.{Armed, Off}
 use Rattle.node.specs.declared.Phase.{Phase}
-use Rattle.node.specs.Asked.{knownR, knownB, lastNumber, resending}
+use Rattle.node.specs.Asked.{knownR, knownB, knownSecond, lastNumber, resending}
 
--- What a node has been told: of its relay, of the breaker, the relay's last state number, and the stamp being resent.
+-- What a node has been told: of its relay, of the breaker, of the breaker as acknowledged or queried (the second pair), the relay's last state number, and the
+-- stamp being resent.
 pub record Knows : Type 0 where
   pub r : Known
   pub b : Known
+  pub second : Known
   pub number : Last
   pub resend : Resend
 
 -- a node that has been told nothing
 abbrev pub nothing : Knows
-nothing = record { r = No; b = No; number = Unknown; resend = Off }
+nothing = record { r = No; b = No; second = No; number = Unknown; resend = Off }
 
 -- ---- what r and b say together, where both are known
 
@@ -93,9 +95,27 @@ abbrev pub ackedAs : Option ℕ → (ℕ → Known) → Known → Known
 ackedAs (some back) changeNumber b = laterOf b (changeNumber back)
 ackedAs none changeNumber b = b
 
--- Query: "b becomes the breaker's status and stamp now." Ack: as above, of the breaker's change number `back`. No other step speaks of the breaker.
+-- Query: "b becomes the breaker's status and stamp now." Ack: as above, of the breaker's change number `back`. No other step speaks of the breaker. The second
+-- pair is heard of in the same way: "A query sets it, and so does an ack when there is none yet or its stamp is not below the pair's" (§9 of 02)
 abbrev pub heardBy : Said → (ℕ → Known) → Pair → Known → Known
 heardBy said changeNumber now b = cond (isKind (said .kind) query) (Yes now) (ackedAs (said .back) changeNumber b)
+
+-- "On a resend timeout when the stamp is no longer fresh" (§9 of 02)
+abbrev pub isStale : Resend → Dts → Bool
+isStale (Armed T) t = not (fresh T t)
+isStale Off t = false
+
+abbrev pub givesUpBy : Said → Dts → Resend → Bool
+givesUpBy said t resend = isKind (said .kind) resendTimeout && isStale resend t
+
+-- "b returns to that pair"; a node that has a stamp to give up knows it
+abbrev pub returnsTo : Known → Known → Known
+returnsTo (Yes second) b = Yes second
+returnsTo No b = b
+
+-- b after a step at clock t, for what had been told
+abbrev pub breakerBy : Said → Dts → (ℕ → Known) → Pair → Knows → Known
+breakerBy said t changeNumber now k = cond (givesUpBy said t (k .resend)) (returnsTo (k .second) (k .b)) (heardBy said changeNumber now (k .b))
 
 -- ---- resend, before the combining rule
 
@@ -113,8 +133,10 @@ isAckOf none changeNumber b = false
 abbrev pub leavesDone : Known → Known → Known → Known → Bool
 leavesDone r b r′ b′ = areDone r b && not (areDone r′ b′)
 
-abbrev pub resendBy : Said → (ℕ → Known) → Known → Known → Known → Known → Resend → Resend
-resendBy said changeNumber r b r′ b′ resend = cond (isAckOf (said .back) changeNumber b) Off (cond (leavesDone r b r′ b′) Off resend)
+-- A resend timeout with its stamp no longer fresh: "resend is disarmed"
+abbrev pub resendBy : Said → Dts → (ℕ → Known) → Known → Known → Known → Known → Resend → Resend
+resendBy said t changeNumber r b r′ b′ resend =
+    cond (givesUpBy said t resend) Off (cond (isAckOf (said .back) changeNumber b) Off (cond (leavesDone r b r′ b′) Off resend))
 
 -- ---- what is sent
 
@@ -133,14 +155,14 @@ sharesBy said t r b r′ =
     (cond (areKnown r b && (not (areAttempt r b) && areAttempt r′ b)) (twoShares r′ t) Zero)
     (cond (isKind (said .kind) shareTimeout) (oneShare r t) Zero)
 
--- Resend timeout: "Sends that command (b's status, that stamp) again."
-abbrev pub againOf : Resend → Known → Known
-againOf (Armed T) (Yes b) = Yes (pair (b .status) T)
-againOf (Armed T) No = No
-againOf Off b = No
+-- Resend timeout: "Sends that command (b's status, that stamp) again." With the stamp no longer fresh, "the old command is not sent" (§9 of 02)
+abbrev pub againOf : Dts → Resend → Known → Known
+againOf t (Armed T) (Yes b) = cond (fresh T t) (Yes (pair (b .status) T)) No
+againOf t (Armed T) No = No
+againOf t Off b = No
 
-abbrev pub againBy : Said → Resend → Known → Known
-againBy said resend b = cond (isKind (said .kind) resendTimeout) (againOf resend b) No
+abbrev pub againBy : Said → Dts → Resend → Known → Known
+againBy said t resend b = cond (isKind (said .kind) resendTimeout) (againOf t resend b) No
 
 -- ---- the combining rule
 
@@ -179,22 +201,23 @@ orArmed (Yes command) resend = Armed (command .stamp)
 orArmed No resend = resend
 
 -- with r and b as the step itself left them
-abbrev endsAs : Said → (ℕ → Known) → Known → Knows → Known → Known → Knows
-endsAs said changeNumber sent k r′ b′ =
+abbrev endsAs : Said → Dts → (ℕ → Known) → Pair → Known → Knows → Known → Known → Knows
+endsAs said t changeNumber now sent k r′ b′ =
     record {
       r = r′;
       b = orSent sent b′;
+      second = heardBy said changeNumber now (k .second);
       number = numberBy said (k .number);
-      resend = orArmed sent (resendBy said changeNumber (k .r) (k .b) r′ b′ (k .resend));
+      resend = orArmed sent (resendBy said t changeNumber (k .r) (k .b) r′ b′ (k .resend));
     }
 
 -- what a node has been told after a step at its clock t, for the breaker's changes and its pair at that time, and for the last command that the node sent in
 -- the step
 abbrev pub knowsAfter : Said → Dts → (ℕ → Known) → Pair → Known → Knows → Knows
 knowsAfter said t changeNumber now sent k =
-    endsAs said changeNumber sent k (relayBy said t (k .b) (k .r)) (heardBy said changeNumber now (k .b))
+    endsAs said t changeNumber now sent k (relayBy said t (k .b) (k .r)) (breakerBy said t changeNumber now k)
 
 -- ---- what a record knows, in the same words
 
 abbrev pub knownIn : Phase → Knows
-knownIn phase = record { r = knownR phase; b = knownB phase; number = lastNumber phase; resend = resending phase }
+knownIn phase = record { r = knownR phase; b = knownB phase; second = knownSecond phase; number = lastNumber phase; resend = resending phase }

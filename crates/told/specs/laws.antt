@@ -4,3 +4,4 @@ pub mod Armed
 pub mod Ending
 pub mod Rule
 pub mod First
+pub mod GivingUp

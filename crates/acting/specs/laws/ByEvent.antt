@@ -20,16 +20,16 @@ use Rattle.pairs.specs.laws.KnownLaws.{isKnown}
 use Rattle.node.specs.declared.Phase.{Phase}
 use Rattle.node.specs.declared.Phase.the-variants.{Down, Starting, Running}
 use Rattle.node.specs.declared.Changed.{Changed}
-use Rattle.node.specs.Asked.{phaseDown, phaseStarting, phaseRunning, knownR, knownB}
+use Rattle.node.specs.Asked.{phaseDown, phaseStarting, phaseRunning, knownR, knownB, knownSecond}
 use Rattle.node.specs.laws.PhaseLaws.{GoesOn, goes-same}
-use Rattle.events.specs.Events.{storeAt, reportStamp, reported, shareTimedOut, laterThan, queried}
-use Rattle.events.specs.laws.EventLaws.{report-r, report-b, report-goes, share-phase, share-shares, resend-phase, resend-shares, ack-r, ack-b, ack-goes, ack-shares, query-r, query-b, query-phase, query-goes, query-shares}
+use Rattle.events.specs.Events.{storeAt, reportStamp, reported, shareTimedOut, resendTimedOut, laterThan, queried}
+use Rattle.events.specs.laws.EventLaws.{report-r, report-b, report-goes, share-phase, share-shares, givesUp, backTo, resend-shares, resend-r, resend-b, resend-goes, ack-r, ack-b, ack-goes, ack-shares, query-r, query-b, query-phase, query-goes, query-shares}
 use Rattle.events.specs.laws.ReportLaws.{entersBy, report-shares}
 use Rattle.breaker.specs.declared.Breaker.{Breaker}
 use Rattle.breaker.specs.Breaker.{changeAt}
 use Rattle.steps.specs.declared.Event.{Event}
 use Rattle.steps.specs.declared.Event.the-variants.{Report, Deliver, ShareTimeout, ResendTimeout, Ack, Query}
-use Rattle.steps.specs.Named.{report, ack, query, saidBy, isKind, among, Of, ofNamed}
+use Rattle.steps.specs.Named.{report, resendTimeout, ack, query, saidBy, isKind, among, Of, ofNamed}
 use Rattle.acting.specs.Acting.{ackedBy, changedBy, stored}
 
 -- ---- what an event leaves
@@ -54,16 +54,22 @@ pub data RelayLeft (event : Event) (p q : Phase) : Type 0 where
   r-stays : reports event ≡ false → knownR q ≡ knownR p → RelayLeft event p q
   r-told : reports event ≡ true → (r : Pair) → saidBy event .status ≡ some (r .status) → (not (phaseDown p) ≡ true → knownR q ≡ Yes r) → RelayLeft event p q
 
--- b: it is known after an ack and after a query; that of a running node is what it was, or the change that an ack brings
-pub data BreakerLeft (breaker : Breaker) (event : Event) (p q : Phase) : Type 0 where
-  b-stays : informs event ≡ false → knownB q ≡ knownB p → BreakerLeft breaker event p q
+-- the event is a resend timeout with the stamp being resent no longer fresh, and this is the second pair
+abbrev pub Returned : Dts → Event → Phase → Pair → Type 0
+Returned t event p b = (isKind (saidBy event .kind) resendTimeout ≡ true) × (givesUp t p ≡ true) × (knownSecond p ≡ Yes b)
+
+-- b: it is known after an ack and after a query; that of a running node is what it was, or the change that an ack brings, or the second pair
+pub data BreakerLeft (breaker : Breaker) (t : Dts) (event : Event) (p q : Phase) : Type 0 where
+  b-stays : informs event ≡ false → knownB q ≡ knownB p → BreakerLeft breaker t event p q
   b-learned : informs event ≡ true → (not (phaseDown p) ≡ true → remembers breaker event ≡ true → isKnown (knownB q) ≡ true)
-      → (phaseRunning p ≡ true → (b : Pair) → knownB q ≡ Yes b → (knownB p ≡ Yes b) ⊎ Acked breaker event b) → BreakerLeft breaker event p q
+      → (phaseRunning p ≡ true → (b : Pair) → knownB q ≡ Yes b → (knownB p ≡ Yes b) ⊎ Acked breaker event b) → BreakerLeft breaker t event p q
+  b-returns : informs event ≡ false → isKnown (knownB q) ≡ isKnown (knownB p) → ((b : Pair) → knownB q ≡ Yes b → (knownB p ≡ Yes b) ⊎ Returned t event p b)
+      → BreakerLeft breaker t event p q
 
 -- the phase, before the combining rule
-pub record PhaseLeft (breaker : Breaker) (event : Event) (p q : Phase) : Type 0 where
+pub record PhaseLeft (breaker : Breaker) (t : Dts) (event : Event) (p q : Phase) : Type 0 where
   pub r : RelayLeft event p q
-  pub b : BreakerLeft breaker event p q
+  pub b : BreakerLeft breaker t event p q
   pub goes : GoesOn p q
 
 -- the shares: none, or, if the node runs, the status that r has then, with t alone or with t and with t + 1
@@ -84,7 +90,7 @@ putFrom s none A stamps = s
 
 -- all that is shown of an event
 pub record Leaves (breaker : Breaker) (p : Phase) (t : Dts) (event : Event) (left : Changed) : Type 0 where
-  pub of-phase : PhaseLeft breaker event p (left .phase)
+  pub of-phase : PhaseLeft breaker t event p (left .phase)
   pub of-shares : SharesLeft p t left
   -- what it delivers is put into the store,
   pub of-store : (s : Store) → stored p s t event ≡ putFrom (storeAt p s t) (saidBy event .sender) (saidBy event .status) (saidBy event .stamps)
@@ -93,8 +99,8 @@ pub record Leaves (breaker : Breaker) (p : Phase) (t : Dts) (event : Event) (lef
 
 -- ---- an event that leaves the phase
 
-module _ (breaker : Breaker) (event : Event) {p q : Phase} where
-  same-phase : reports event ≡ false → informs event ≡ false → q ≡ p → PhaseLeft breaker event p q
+module _ (breaker : Breaker) (t : Dts) (event : Event) {p q : Phase} where
+  same-phase : reports event ≡ false → informs event ≡ false → q ≡ p → PhaseLeft breaker t event p q
   same-phase no-report no-news same = record { r = r-stays no-report (ap knownR same); b = b-stays no-news (ap knownB same); goes = goes-same same }
 
 -- ---- a phase that runs
@@ -131,8 +137,8 @@ module _ (t : Dts) where
 
 -- ---- Ack and Query: what they leave of b
 
-module _ (breaker : Breaker) (p : Phase) where
-  ack-left : (back : ℕ) (k : Known) → changeAt breaker back ≡ k → PhaseLeft breaker (Ack back) p (ackedBy p k .phase)
+module _ (breaker : Breaker) (t : Dts) (p : Phase) where
+  ack-left : (back : ℕ) (k : Known) → changeAt breaker back ≡ k → PhaseLeft breaker t (Ack back) p (ackedBy p k .phase)
   ack-left back (Yes change) is =
       record {
         r = r-stays refl (ack-r change p);
@@ -158,7 +164,7 @@ module _ (breaker : Breaker) (p : Phase) where
   ack-none (Yes change) = ack-shares change p
   ack-none No = refl
 
-  query-left : PhaseLeft breaker Query p (queried p (breaker .pair) .phase)
+  query-left : PhaseLeft breaker t Query p (queried p (breaker .pair) .phase)
   query-left =
       record {
         r = r-stays refl (query-r (breaker .pair) p);
@@ -170,6 +176,37 @@ module _ (breaker : Breaker) (p : Phase) where
       informed Down up = absurd (false≢true up)
       informed (Starting l) up = ap isKnown (query-b (breaker .pair) (Starting l) refl)
       informed (Running rec) up = ap (λ (q : Phase). isKnown (knownB q)) (query-phase (breaker .pair) (Running rec) refl)
+
+-- ---- Resend timeout: b returns, or stays
+
+module _ (breaker : Breaker) (t : Dts) (p : Phase) where
+  resend-left : PhaseLeft breaker t ResendTimeout p (resendTimedOut p t .phase)
+  resend-left =
+      record {
+        r = r-stays refl (resend-r t p);
+        b = b-returns refl (ap isKnown (resend-b t p) ∙ as-known (givesUp t p) (knownSecond p) (knownB p) refl refl) (λ b e. one b (givesUp t p) (knownSecond p) refl refl (sym (resend-b t p) ∙ e));
+        goes = resend-goes t p;
+      }
+    where
+      -- only a running node gives up, and it knows b
+      runs : givesUp t p ≡ true → isKnown (knownB p) ≡ true
+      runs = go p
+        where
+          go : (p : Phase) → givesUp t p ≡ true → isKnown (knownB p) ≡ true
+          go Down e = absurd (false≢true e)
+          go (Starting l) e = absurd (false≢true e)
+          go (Running rec) e = refl
+
+      as-known : (x : Bool) (second b : Known) → givesUp t p ≡ x → knownB p ≡ b → isKnown (cond x (backTo second b) b) ≡ isKnown b
+      as-known true (Yes s) b e is = sym (ap isKnown (sym is) ∙ runs e)
+      as-known true No b e is = refl
+      as-known false second b e is = refl
+
+      one : (b : Pair) (x : Bool) (second : Known) → givesUp t p ≡ x → knownSecond p ≡ second → cond x (backTo second (knownB p)) (knownB p) ≡ Yes b
+          → (knownB p ≡ Yes b) ⊎ Returned t ResendTimeout p b
+      one b true (Yes s) up is e = inr (refl, up, is ∙ e)
+      one b true No up is e = inl e
+      one b false second up is e = inl e
 
 -- ---- every event
 
@@ -187,22 +224,22 @@ left-by breaker p t (Report status number) =
       unsent-or-kept = inl refl;
     }
 left-by breaker p t (Deliver sender status T) =
-    record { of-phase = same-phase breaker (Deliver sender status T) refl refl refl; of-shares = no-shares refl; of-store = λ s. refl; unsent-or-kept = inr refl }
+    record { of-phase = same-phase breaker t (Deliver sender status T) refl refl refl; of-shares = no-shares refl; of-store = λ s. refl; unsent-or-kept = inr refl }
 left-by breaker p t ShareTimeout =
-    record { of-phase = same-phase breaker ShareTimeout refl refl (share-phase p t); of-shares = timeout-left t p; of-store = λ s. refl; unsent-or-kept = inl refl }
+    record { of-phase = same-phase breaker t ShareTimeout refl refl (share-phase p t); of-shares = timeout-left t p; of-store = λ s. refl; unsent-or-kept = inl refl }
 left-by breaker p t ResendTimeout =
     record {
-      of-phase = same-phase breaker ResendTimeout refl refl (resend-phase p);
-      of-shares = no-shares (resend-shares p);
+      of-phase = resend-left breaker t p;
+      of-shares = no-shares (resend-shares t p);
       of-store = λ s. refl;
       unsent-or-kept = inl refl;
     }
 left-by breaker p t (Ack back) =
     record {
-      of-phase = ack-left breaker p back (changeAt breaker back) refl;
-      of-shares = no-shares (ack-none breaker p (changeAt breaker back));
+      of-phase = ack-left breaker t p back (changeAt breaker back) refl;
+      of-shares = no-shares (ack-none breaker t p (changeAt breaker back));
       of-store = λ s. refl;
       unsent-or-kept = inl refl;
     }
 left-by breaker p t Query =
-    record { of-phase = query-left breaker p; of-shares = no-shares (query-shares (breaker .pair) p); of-store = λ s. refl; unsent-or-kept = inl refl }
+    record { of-phase = query-left breaker t p; of-shares = no-shares (query-shares (breaker .pair) p); of-store = λ s. refl; unsent-or-kept = inl refl }

@@ -17,7 +17,7 @@ use Rattle.breaker.specs.declared.Breaker.{Breaker}
 use Rattle.steps.specs.declared.Event.{Event}
 use Rattle.steps.specs.Named.{ack, query, saidBy, among}
 use Rattle.acting.specs.Acting.{changedBy, acted}
-use Rattle.acting.specs.laws.ByEvent.{BreakerLeft, b-stays, b-learned, left-by}
+use Rattle.acting.specs.laws.ByEvent.{BreakerLeft, b-stays, b-learned, b-returns, left-by}
 pub use Rattle.acting.specs.laws.ByEvent.{remembers}
 
 module _ (breaker : Breaker) (node : Node) (i f : ℕ) (t : Dts) (event : Event) where
@@ -47,9 +47,10 @@ module _ (breaker : Breaker) (node : Node) (i f : ℕ) (t : Dts) (event : Event)
       by : Bool → Bool
       by x = x || isKnown (knownB before)
 
-      go : BreakerLeft breaker event before left → isKnown (knownB left) ≡ (among (saidBy event .kind) (ack ∷ query ∷ []) || isKnown (knownB before))
+      go : BreakerLeft breaker t event before left → isKnown (knownB left) ≡ (among (saidBy event .kind) (ack ∷ query ∷ []) || isKnown (knownB before))
       go (b-stays no-news same) = ap isKnown same ∙ sym (ap by no-news)
       go (b-learned is-news known moves) = known up r ∙ sym (ap by is-news)
+      go (b-returns no-news same moves) = same ∙ sym (ap by no-news)
 
   -- nothing is left to combine
   pub left-quiet : (new : Record) → after ≡ Running new → Quiet new (acted breaker node i f t event .node .store) f

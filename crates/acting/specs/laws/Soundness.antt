@@ -1,4 +1,4 @@
--- A record that refusal 16 lets pass is one that it lets pass after every event.
+-- What is in its range, as refusal 16 asks it of a record, is so after every event; and the second pair stays no later than b, and known where b is.
 use Prim.Native.Nat.{ℕ, _≤_, _<_}
 use mathlib.Core.Path.{_≡_, refl, sym, ap, subst, _∙_}
 use mathlib.Core.Bool.{true}
@@ -25,13 +25,13 @@ use Rattle.steps.specs.laws.Naming.{IfNamed}
 use Rattle.node.specs.declared.Phase.{Phase}
 use Rattle.node.specs.declared.Phase.the-variants.{Down, Starting, Running}
 use Rattle.node.specs.declared.Node.{Node}
-use Rattle.node.specs.Asked.{nodeSound}
-use Rattle.node.specs.laws.Soundness.{SoundPhase, SoundNode, parts, whole}
+use Rattle.node.specs.Asked.{nodeInRange}
+use Rattle.node.specs.laws.Soundness.{SoundPhase, SoundNode, parts, whole, FollowsIn}
 use Rattle.combining.specs.Combining.{putAll, finished}
 use Rattle.combining.specs.laws.OwnLaws.{clock-all}
-use Rattle.combining.specs.laws.Soundness.{ended-sound, all-within}
+use Rattle.combining.specs.laws.Soundness.{ended-sound, ended-follows, all-within}
 use Rattle.events.specs.Events.{storeAt}
-use Rattle.events.specs.laws.Soundness.{report-sound, share-sound, resend-sound, ack-sound, query-sound}
+use Rattle.events.specs.laws.Soundness.{report-sound, share-sound, resend-sound, ack-sound, query-sound, report-follows, share-follows, resend-follows, ack-follows, query-follows}
 use Rattle.breaker.specs.declared.Breaker.{Breaker}
 use Rattle.breaker.specs.Breaker.{changeAt, breakerSound}
 use Rattle.breaker.specs.laws.Soundness.{change-sound, parts as breaker-parts}
@@ -52,10 +52,33 @@ unfolding changedBy
 sound-by breaker p t (Report status number) of-breaker l s = report-sound p t status number l s
 sound-by breaker p t (Deliver sender status T) of-breaker l s = s
 sound-by breaker p t ShareTimeout of-breaker l s = share-sound p t s
-sound-by breaker p t ResendTimeout of-breaker l s = resend-sound p s
+sound-by breaker p t ResendTimeout of-breaker l s = resend-sound p t s
 sound-by breaker p t (Ack back) of-breaker l s =
     acked-sound p (changeAt breaker back) (λ change is. right (leb (change .status) 1) _ (change-sound breaker back change of-breaker is)) s
 sound-by breaker p t Query of-breaker l s = query-sound p (breaker .pair) (right (leb (breaker .pair .status) 1) _ (breaker-parts breaker of-breaker .of-pair)) s
+
+-- ---- the second pair
+
+acked-follows : (p : Phase) (k : Known) → FollowsIn p → FollowsIn (ackedBy p k .phase)
+acked-follows p (Yes change) l = ack-follows p change l
+acked-follows p No l = l
+
+-- one clause an event
+pub follows-by : (breaker : Breaker) (p : Phase) (t : Dts) (event : Event) → FollowsIn p → FollowsIn (changedBy breaker p t event .phase)
+unfolding changedBy
+follows-by breaker p t (Report status number) l = report-follows p t status number l
+follows-by breaker p t (Deliver sender status T) l = l
+follows-by breaker p t ShareTimeout l = share-follows p t l
+follows-by breaker p t ResendTimeout l = resend-follows p t l
+follows-by breaker p t (Ack back) l = acked-follows p (changeAt breaker back) l
+follows-by breaker p t Query l = query-follows p (breaker .pair) l
+
+pub acted-follows : (breaker : Breaker) (node : Node) (i f : ℕ) (t : Dts) (event : Event) → FollowsIn (node .phase)
+    → FollowsIn (acted breaker node i f t event .node .phase)
+unfolding acted finished
+acted-follows breaker node i f t event l =
+    ended-follows (putAll (stored (node .phase) (node .store) t event) i (changedBy breaker (node .phase) t event .shares)) f
+    (changedBy breaker (node .phase) t event .phase) (follows-by breaker (node .phase) t event l)
 
 -- ---- the store
 
@@ -87,7 +110,7 @@ module _ (s : Store) (n : ℕ) (w : storeWithin s n ≡ true) where
 module _
     (breaker : Breaker) (node : Node) (i f n : ℕ) (t : Dts) (event : Event)
     (l : node .store .clock .0 ≤ t .0) (m : t .0 ≤ latestClock) (here : i < n) (from : IfNamed (saidBy event .sender) (λ k. k < n))
-    (of-breaker : breakerSound breaker ≡ true) (sound : nodeSound node n ≡ true)
+    (of-breaker : breakerSound breaker ≡ true) (sound : nodeInRange node n ≡ true)
   where
     before : SoundNode node n
     before = parts node n sound
@@ -117,9 +140,9 @@ module _
         (at-clock (node .phase) (node .store) t l)
 
     -- No stamp and no clock is beyond its limit, and every sender is below n: the node itself, and the one that the event names.
-    pub acted-sound : nodeSound (acted breaker node i f t event .node) n ≡ true
+    pub acted-in-range : nodeInRange (acted breaker node i f t event .node) n ≡ true
     unfolding acted finished
-    acted-sound =
+    acted-in-range =
         whole _ n
         (record {
           of-clock = le-leb (own .clock .0) lastHeldClock (omega (arith, own-clock, m));

@@ -1,31 +1,36 @@
 -- What an event leaves of a node: r is that of 01's node, and the message is of the status that the relay said last, with the node's own clock for its stamp.
+-- And what refusal 16 asks of its record: that its numbers are in range, and no more.
 use Prim.Native.Nat.{ℕ}
 use mathlib.Core.Path.{_≡_, refl, sym, ap, _∙_}
 use mathlib.Core.Bool.{Bool, true, false, not, _&&_, _||_, false≢true, and-eq-true-iff}
 use mathlib.Core.Logic.{_⊎_, inl, inr}
 use mathlib.Core.Option.{Option, some}
+use native.Mathlib.Omega.{arith}
 use lib.Dec.{eqb}
-use borrow.Author.Tests.{eqb-true}
+use borrow.Author.Tests.{eqb-true, le-leb}
+use Rattle.refusals.specs.laws.Bools.{and-true}
 use Rattle.time.specs.declared.Dts.{Dts}
 use Rattle.time.specs.Fresh.{next}
 use Rattle.pairs.specs.declared.Pair.{Pair}
 use Rattle.pairs.specs.declared.Known.{Known}
-use Rattle.pairs.specs.declared.Known.the-variants.{Yes}
+use Rattle.pairs.specs.declared.Known.the-variants.{Yes, No}
 use Rattle.pairs.specs.declared.Pairs.{Pairs}
 use Rattle.pairs.specs.declared.Pairs.the-variants.{Zero, One, Two}
 use Rattle.pairs.specs.Pair.{pair, listedKnown, has}
 use Rattle.node.specs.declared.Phase.{Phase as PeerPhase}
 use Rattle.node.specs.declared.Phase.the-variants as Peer
 use Rattle.node.specs.declared.Changed.{Changed}
-use Rattle.node.specs.Asked.{phaseDown, phaseRunning, knownR}
+use Rattle.node.specs.Asked.{phaseDown, phaseRunning, knownR, nodeInRange, notAbove, secondSound, nodeSound}
 use Rattle.breaker.specs.declared.Breaker.{Breaker}
 use Rattle.acting.specs.Acting.{changedBy}
 use Rattle.acting.specs.laws.ByEvent.{SharesLeft, no-shares, r-shared, runs-up, left-by}
 use Rattle.acting.specs.laws.Relay.{statusIn, relayAfter, told-r}
 use Rattle.arbiter_steps.specs.declared.Event.{Event}
 use Rattle.arbiter_steps.specs.Steps as Steps
+use Rattle.arbiter_node.specs.declared.Phase.{Phase}
+use Rattle.arbiter_node.specs.declared.Phase.the-variants.{Down, Starting, Running}
 use Rattle.arbiter_node.specs.declared.Voter.{Voter}
-use Rattle.arbiter_node.specs.Voter.{phaseInPeer, ofPeerPhase, firstOf, voted}
+use Rattle.arbiter_node.specs.Voter.{phaseInPeer, inPeer, ofPeerPhase, firstOf, voted}
 
 -- what is forgotten is not r
 same-r : (p : PeerPhase) → knownR (phaseInPeer (ofPeerPhase p)) ≡ knownR p
@@ -77,3 +82,20 @@ module _ (breaker : Breaker) (voter : Voter) (t : Dts) (event : Event) where
       go (no-shares zero) = absurd (false≢true (has-of zero))
       go (r-shared r runs is (inl w)) = one r (of-relay r runs is) (has-of w)
       go (r-shared r runs is (inr w)) = one r (of-relay r runs is) (has-of w)
+
+-- ---- refusal 16
+
+-- the second pair is b: it is not above b, and a running node knows it
+not-above : (b : Known) → notAbove b b ≡ true
+not-above (Yes b) = le-leb (b .stamp .0) (b .stamp .0) (omega arith)
+not-above No = refl
+
+second-sound : (p : Phase) → secondSound (phaseInPeer p) ≡ true
+second-sound Down = refl
+second-sound (Starting l) = not-above (l .b)
+second-sound (Running heard) = not-above (Yes (heard .b))
+
+-- so 16 has nothing against a record whose numbers are in range
+pub sound-in-range : (voter : Voter) (n : ℕ) → nodeSound (inPeer voter) n ≡ nodeInRange (inPeer voter) n
+unfolding nodeSound
+sound-in-range voter n = ap (λ (x : Bool). nodeInRange (inPeer voter) n && x) (second-sound (voter .phase)) ∙ and-true (nodeInRange (inPeer voter) n)

@@ -1,31 +1,28 @@
 -- What each row's test tells, and so which number a step is answered with.
 use Prim.Native.Nat.{ℕ, _≤_, _<_}
 use mathlib.Core.Path.{_≡_, refl, sym, ap, _∙_}
-use mathlib.Core.Bool.{Bool, true, false, not, _&&_, cond, false≢true, true≢false}
+use mathlib.Core.Bool.{Bool, true, false, not, _&&_, cond, true≢false}
 use mathlib.Core.Logic.{_↔_, _⊎_, inl, inr}
 use lib.Dec.{eqb}
 use borrow.Author.Tests.{eqb-true}
-use lib.ListN.{getD}
 use Rattle.refusals.specs.Tests.{refusal, testAt}
-use Rattle.refusals.specs.laws.Bools.{and-assoc}
-use Rattle.tables.specs.Tables.{table, getD-table}
+use Rattle.refusals.specs.laws.Bools.{and-assoc, and-true}
 use Rattle.time.specs.declared.Dts.{Dts}
-use Rattle.time.specs.Limits.{lastHeldClock, clockSound}
-use Rattle.senders.specs.Masks.{isIn}
-use Rattle.senders.specs.laws.MaskLaws.{in-none}
-use Rattle.store.specs.Store.{places, setAt, empty, storeWithin}
+use Rattle.time.specs.Limits.{lastHeldStamp, lastHeldClock, clockSound}
+use Rattle.store.specs.Store.{empty, storeWithin}
+use Rattle.store.specs.laws.WithinLaws.{empty-within}
 use Rattle.steps.specs.declared.Turn.the-variants as Turn
 use Rattle.steps.specs.Named.{StepKind, command, isKind}
-use Rattle.node.specs.Asked.{nodeSound}
+use Rattle.node.specs.Asked.{knownSound, nodeInRange, nodeSound}
 use Rattle.site.specs.declared.Answer.{Answer}
 use Rattle.site.specs.Site.{n, siteSound}
 use Rattle.site.specs.Answers.{numberOf}
 use Rattle.site.specs.laws.Answers.{done-number}
 use Rattle.rows.specs.Exactly.{Condition, NoneBefore, None, Tells, Tell, also}
 use Rattle.rows.specs.laws.Exactly.{exactly, exactly-done, at-most, met}
-use Rattle.rows.specs.Conditions.{ClockTooLate, SenderOutside, PhaseTooLate as PeerTooLate}
+use Rattle.rows.specs.Conditions.{ClockTooLate}
 use Rattle.rows.specs.laws.Telling.{above, _or_, spelled, worded, of-named, kind-is, no-start}
-use Rattle.rows.specs.laws.Ranges.{store-tells, node-tells}
+use Rattle.rows.specs.laws.Ranges.{store-tells, known-tells}
 use Rattle.rows.specs.laws.Cases.{site-tells, actor-tells, later-rows-tell}
 use Rattle.arbiter_steps.specs.declared.Event.the-variants.{Report, ShareTimeout, Ack, Query}
 use Rattle.arbiter_steps.specs.declared.Step.{Step}
@@ -34,7 +31,8 @@ use Rattle.arbiter_steps.specs.Steps.{named}
 use Rattle.arbiter_node.specs.declared.Phase.{Phase}
 use Rattle.arbiter_node.specs.declared.Phase.the-variants.{Down, Starting, Running}
 use Rattle.arbiter_node.specs.declared.Voter.{Voter}
-use Rattle.arbiter_node.specs.Voter.{phaseInPeer, inPeer}
+use Rattle.arbiter_node.specs.Voter.{inPeer}
+use Rattle.arbiter_node.specs.laws.VoterLaws.{sound-in-range}
 use Rattle.arbiter_site.specs.declared.Arbiter.{Arbiter}
 use Rattle.arbiter_site.specs.Site.{arbiterSound}
 use Rattle.arbiter_site.specs.Tests.{tableFor, testsOf}
@@ -45,39 +43,30 @@ use Rattle.arbiter_rows.specs.Conditions.{PhaseTooLate, refusalTable}
 
 -- ---- a record, in its own words
 
--- an empty store has no sender
-none-outside : (clock : Dts) (m : ℕ) → SenderOutside (empty clock) m → ⊥
-unfolding empty
-none-outside clock m o =
-    false≢true (sym (in-none (o .2 .0)) ∙ sym (ap (λ (mask : ℕ). isIn mask (o .2 .0)) (getD-table places (λ k. 0) (o .0) 0 (o .1))) ∙ o .2 .1)
+-- a test that is made twice says what it says once
+twice : (a b : Bool) → (a && b && b) ≡ (a && b)
+twice true true = refl
+twice true false = refl
+twice false b = refl
 
--- 01's node that it is has the same to be judged
-same-phase : (p : Phase) → PeerTooLate (phaseInPeer p) ↔ PhaseTooLate p
-same-phase Down = (λ h. h, λ h. h)
-same-phase (Starting l) = (λ h. h, λ h. h)
-same-phase (Running heard) = (to, back)
-  where
-    to : PeerTooLate (phaseInPeer (Running heard)) → PhaseTooLate (Running heard)
-    to (inl h) = inl h
-    to (inr (inl h)) = inr h
-    to (inr (inr h)) = absurd h
+-- 01's node that it is has no sender in its store, and its second pair is judged with b
+module _ (clock : Dts) (m : ℕ) where
+  no-sender : (x : Bool) → (clockSound clock && storeWithin (empty clock) m && x) ≡ (clockSound clock && x)
+  no-sender x = simp (empty-within clock m, and-true)
 
-    back : PhaseTooLate (Running heard) → PeerTooLate (phaseInPeer (Running heard))
-    back (inl h) = inl h
-    back (inr h) = inr (inl h)
+  in-range-tells : (p : Phase) → Tells (nodeInRange (inPeer (record { phase = p; clock = clock })) m) (ClockTooLate clock ⊎ PhaseTooLate p)
+  unfolding nodeInRange empty
+  in-range-tells Down = spelled (no-sender true) (above (clock .0) lastHeldClock or (λ e. absurd (true≢false e), absurd))
+  in-range-tells (Starting l) =
+      spelled (no-sender _)
+      (above (clock .0) lastHeldClock or spelled (twice (knownSound (l .r)) (knownSound (l .b))) (known-tells (l .r) or known-tells (l .b)))
+  in-range-tells (Running heard) =
+      spelled (no-sender _)
+      (above (clock .0) lastHeldClock
+      or spelled (simp (and-true, twice)) (above (heard .r .stamp .0) lastHeldStamp or above (heard .b .stamp .0) lastHeldStamp))
 
 voter-tells : (voter : Voter) (m : ℕ) → Tells (nodeSound (inPeer voter) m) (ClockTooLate (voter .clock) ⊎ PhaseTooLate (voter .phase))
-unfolding empty
-voter-tells voter m = worded (to, back) (node-tells (inPeer voter) m)
-  where
-    to : ClockTooLate (voter .clock) ⊎ SenderOutside (empty (voter .clock)) m ⊎ PeerTooLate (phaseInPeer (voter .phase)) → ClockTooLate (voter .clock) ⊎ PhaseTooLate (voter .phase)
-    to (inl h) = inl h
-    to (inr (inl h)) = absurd (none-outside (voter .clock) m h)
-    to (inr (inr h)) = inr (same-phase (voter .phase) .0 h)
-
-    back : ClockTooLate (voter .clock) ⊎ PhaseTooLate (voter .phase) → ClockTooLate (voter .clock) ⊎ SenderOutside (empty (voter .clock)) m ⊎ PeerTooLate (phaseInPeer (voter .phase))
-    back (inl h) = inl h
-    back (inr h) = inr (inr (same-phase (voter .phase) .1 h))
+voter-tells voter m = spelled (sound-in-range voter m) (in-range-tells (voter .clock) m (voter .phase))
 
 -- no step is a command
 pub no-command : (step : Step) → named step .said .kind ≡ command → ⊥

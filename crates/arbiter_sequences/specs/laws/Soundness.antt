@@ -1,4 +1,5 @@
--- A site that came from a Start passes refusal 16, and so does the record of each of its nodes: what 16 asks of them is kept by every step.
+-- A site that came from a Start passes refusal 16, and so does the record of each of its nodes: every step keeps what 16 asks of a site, and of a record that
+-- its numbers are in range. More is not asked of a node without a second pair.
 use Prim.Native.Nat.{ℕ, _+_, _-_, _≤_, _<_}
 use mathlib.Core.Path.{_≡_, refl, sym, ap, subst, _∙_}
 use mathlib.Core.Bool.{Bool, true, false, _&&_, _||_, cond, and-eq-true-iff}
@@ -26,7 +27,7 @@ use Rattle.pooling.specs.laws.PoolLaws.{pooled-from, latest-held}
 use Rattle.node.specs.declared.Node.{Node}
 use Rattle.node.specs.declared.Phase.{Phase as PeerPhase}
 use Rattle.node.specs.declared.Phase.the-variants as Peer
-use Rattle.node.specs.Asked.{nodeSound}
+use Rattle.node.specs.Asked.{nodeInRange, nodeSound}
 use Rattle.node.specs.laws.Soundness.{SoundPhase, parts, whole}
 use Rattle.breaker.specs.declared.Breaker.{Breaker}
 use Rattle.breaker.specs.Breaker.{repeats, answered, changed, afterCommand, breakerSound}
@@ -42,7 +43,7 @@ use Rattle.site.specs.laws.Sound.{tested}
 use Rattle.refusing.specs.Tests.{unlessStart}
 use Rattle.refusing.specs.laws.Accepted.{begins, begins-within, ticks, happens, turns}
 use Rattle.effects.specs.Effects.{withBreaker, startedSite, firstRecord, ticked, turned}
-use Rattle.effects.specs.laws.Soundness.{first-sound, begun-sound, ticked-sound, noted-sound, turned-sound, commanded-sound}
+use Rattle.effects.specs.laws.Soundness.{first-intact, begun-sound, ticked-sound, noted-sound, turned-sound, commanded-sound}
 use Rattle.loans.specs.laws.LoanLaws.{front, fronted-length}
 use Rattle.arbiter_steps.specs.declared.Event.{Event}
 use Rattle.arbiter_steps.specs.declared.Message.{Message}
@@ -52,6 +53,7 @@ use Rattle.arbiter_steps.specs.Steps.{named}
 use Rattle.arbiter_steps.specs.Steps as Steps
 use Rattle.arbiter_node.specs.declared.Voter.{Voter}
 use Rattle.arbiter_node.specs.Voter.{phaseInPeer, inPeer, ofPeerPhase, ofPeer, voted}
+use Rattle.arbiter_node.specs.laws.VoterLaws.{sound-in-range}
 use Rattle.arbiter_breaker.specs.declared.Arbitrated.{Arbitrated}
 use Rattle.arbiter_breaker.specs.Arbitrating.{other, received, asking, decided, arbitrated}
 use Rattle.arbiter_breaker.specs.laws.ArbitratingLaws.{other-differs, received-clock, moves, when-moved, when-unmoved}
@@ -71,25 +73,25 @@ use Rattle.arbiter_sequences.specs.laws.Keeping.{Keeps, no-start, reache
 
 -- ---- a record, as 01's
 
--- without a stamp that is resent
+-- without a stamp that is resent, and with b for the second pair
 stripped : (p : PeerPhase) → SoundPhase p → SoundPhase (phaseInPeer (ofPeerPhase p))
 stripped Peer.Down s = s
-stripped (Peer.Starting l) s = s
-stripped (Peer.Running rec) s = record { of-r = s .of-r; of-b = s .of-b; of-resend = refl }
+stripped (Peer.Starting l) s = record { of-r = s .of-r; of-b = s .of-b; of-second = s .of-b; of-resend = refl }
+stripped (Peer.Running rec) s = record { of-r = s .of-r; of-b = s .of-b; of-second = s .of-b; of-resend = refl }
 
 -- and without shares
-voter-sound : (node : Node) (count : ℕ) → nodeSound node count ≡ true → nodeSound (inPeer (ofPeer node)) count ≡ true
+voter-in-range : (node : Node) (count : ℕ) → nodeInRange node count ≡ true → nodeInRange (inPeer (ofPeer node)) count ≡ true
 unfolding empty
-voter-sound node count e =
+voter-in-range node count e =
     let s = parts node count e in
     whole (inPeer (ofPeer node)) count
     (record { of-clock = s .of-clock; of-store = empty-within (node .store .clock) count; of-phase = stripped (node .phase) (s .of-phase) })
 
 -- after an event at clock t
-voted-sound : (breaker : Breaker) (voter : Voter) (count : ℕ) (t : Dts) (event : Event) → breakerSound breaker ≡ true → t .0 ≤ latestClock
-    → nodeSound (inPeer voter) count ≡ true → nodeSound (inPeer (voted breaker voter t event .voter)) count ≡ true
+voted-in-range : (breaker : Breaker) (voter : Voter) (count : ℕ) (t : Dts) (event : Event) → breakerSound breaker ≡ true → t .0 ≤ latestClock
+    → nodeInRange (inPeer voter) count ≡ true → nodeInRange (inPeer (voted breaker voter t event .voter)) count ≡ true
 unfolding voted empty
-voted-sound breaker voter count t event of-breaker late e =
+voted-in-range breaker voter count t event of-breaker late e =
     whole _ count
     (record {
       of-clock = le-leb (t .0) lastHeldClock (omega (arith, late));
@@ -181,23 +183,24 @@ pub record Sound (a : Arbiter) (records : List Voter) : Type 0 where
   pub of-site : siteSound (a .site) (length records) ≡ true
   pub of-clock : clockSound (a .held .clock) ≡ true
   pub of-held : storeWithin (a .held) (n (a .site)) ≡ true
-  pub of-nodes : (j : ℕ) → j < n (a .site) → nodeSound (inPeer (getD records j downVoter)) (n (a .site)) ≡ true
+  pub of-nodes : (j : ℕ) → j < n (a .site) → nodeInRange (inPeer (getD records j downVoter)) (n (a .site)) ≡ true
 
 -- a step at node i
 at-node : (a : Arbiter) (next : Site) (records : List Voter) (i : ℕ) (voter : Voter) → Sound a records → n next ≡ n (a .site) → i < length records
-    → siteSound next (length records) ≡ true → nodeSound (inPeer voter) (n (a .site)) ≡ true → Sound (record { site = next; held = a .held }) (set records i voter)
+    → siteSound next (length records) ≡ true → nodeInRange (inPeer voter) (n (a .site)) ≡ true
+    → Sound (record { site = next; held = a .held }) (set records i voter)
 at-node a next records i voter before same lent whole new =
     record {
       of-site = subst (λ (count : ℕ). siteSound next count ≡ true) (sym (length-set records i voter)) whole;
       of-clock = before .of-clock;
       of-held = subst (λ (count : ℕ). storeWithin (a .held) count ≡ true) (sym same) (before .of-held);
       of-nodes = λ j l.
-          subst (λ (count : ℕ). nodeSound (inPeer (getD (set records i voter) j downVoter)) count ≡ true) (sym same)
+          subst (λ (count : ℕ). nodeInRange (inPeer (getD (set records i voter) j downVoter)) count ≡ true) (sym same)
           (one j (subst (λ (count : ℕ). j < count) same l) (eqb j i) refl);
     }
   where
     IsSound : Voter → Type 0
-    IsSound x = nodeSound (inPeer x) (n (a .site)) ≡ true
+    IsSound x = nodeInRange (inPeer x) (n (a .site)) ≡ true
 
     one : (j : ℕ) → j < n (a .site) → (x : Bool) → eqb j i ≡ x → IsSound (getD (set records i voter) j downVoter)
     one j l true e =
@@ -278,8 +281,8 @@ module _
           of-clock = le-leb (first .g .0) lastHeldClock (omega (arith, last));
           of-held = empty-within (first .g) count;
           of-nodes = λ j l.
-              subst (λ (x : Voter). nodeSound (inPeer x) count ≡ true) (sym (front count rule (drop count records) j downVoter l))
-              (voter-sound (firstRecord (first .compromised) j) count (first-sound (first .compromised) j count));
+              subst (λ (x : Voter). nodeInRange (inPeer x) count ≡ true) (sym (front count rule (drop count records) j downVoter l))
+              (voter-in-range (firstRecord (first .compromised) j) count (first-intact (first .compromised) j count .in-range));
         }
       where
         count : ℕ
@@ -307,7 +310,7 @@ module _
         let s = before b q in
         at-node a _ records i _ s refl (x .place .is-lent)
         (noted-sound (a .site) (length records) (s .of-site) i (sharesOf (voted (a .site .breaker) voter t event .message)) (x .place .is-node))
-        (voted-sound (a .site .breaker) voter (n (a .site)) t event (tested (a .site) (length records) (s .of-site) .of-breaker) (x .not-late)
+        (voted-in-range (a .site .breaker) voter (n (a .site)) t event (tested (a .site) (length records) (s .of-site) .of-breaker) (x .not-late)
         (s .of-nodes i (x .place .is-node)))
 
     takes-turn : (i : ℕ) (turn : Turn) → Does (Life i turn)
@@ -317,7 +320,8 @@ module _
         let s = before b q in
         let after = turned-sound (a .site) (length records) (s .of-site) i turn (place .is-node) in
         subst (λ (o : PeerOut). Sound (record { site = o .site; held = a .held }) (set records i (ofPeer (o .node)))) (sym (after .is))
-        (at-node a _ records i (ofPeer (after .node)) s refl (place .is-lent) (after .of-site) (voter-sound (after .node) (n (a .site)) (after .of-node)))
+        (at-node a _ records i (ofPeer (after .node)) s refl (place .is-lent) (after .of-site)
+        (voter-in-range (after .node) (n (a .site)) (after .of-node .in-range)))
 
     is-heard : (t : Dts) (m : Message) → Does (AtBreaker t m)
     unfolding effectOf
@@ -352,7 +356,7 @@ passes-16 a records step s = go (named step .beginning) (named step .actor)
   where
     below : (i : ℕ) (x : Bool) → leb (n (a .site)) i ≡ x → (x || nodeSound (inPeer (getD records i downVoter)) (n (a .site))) ≡ true
     below i true e = refl
-    below i false e = s .of-nodes i (leb-false _ _ e)
+    below i false e = sound-in-range (getD records i downVoter) (n (a .site)) ∙ s .of-nodes i (leb-false _ _ e)
 
     of-actor : (actor : Option ℕ) → ofNamed actor (actorSound (a .site) (inPeer (recordOf actor records))) ≡ true
     of-actor none = refl

@@ -23,12 +23,12 @@ use Rattle.steps.specs.declared.Turn.{Turn}
 use Rattle.steps.specs.declared.Turn.the-variants.{Down, Up}
 use Rattle.steps.specs.declared.Act.{Act}
 use Rattle.node.specs.declared.Node.{Node}
-use Rattle.node.specs.Asked.{nodeSound}
+use Rattle.node.specs.laws.Soundness.{Intact}
 use Rattle.combining.specs.Combining.{putAll}
 use Rattle.combining.specs.laws.OwnLaws.{clock-all}
 use Rattle.combining.specs.laws.Soundness.{all-within}
 use Rattle.events.specs.Events.{wentDown, wentUp}
-use Rattle.events.specs.laws.Soundness.{went-down-sound, went-up-sound}
+use Rattle.events.specs.laws.Soundness.{went-down-intact, went-up-intact}
 use Rattle.breaker.specs.declared.Breaker.{Breaker}
 use Rattle.breaker.specs.Breaker.{afterCommand, breakerSound}
 use Rattle.breaker.specs.laws.Soundness.{started-sound, command-sound}
@@ -41,13 +41,13 @@ use Rattle.effects.specs.Effects.{withMade, withDown, withBreaker, start
 
 -- ---- a Start: what row 1 asks of it is what 16 asks of the site
 
-pub first-sound : (compromised j count : ℕ) → nodeSound (firstRecord compromised j) count ≡ true
+pub first-intact : (compromised j count : ℕ) → Intact (firstRecord compromised j) count
 unfolding firstRecord
-first-sound compromised j count = either (isIn compromised j)
+first-intact compromised j count = either (isIn compromised j)
   where
-    either : (x : Bool) → nodeSound (cond x wentDown wentUp) count ≡ true
-    either true = went-down-sound count
-    either false = went-up-sound count
+    either : (x : Bool) → Intact (cond x wentDown wentUp) count
+    either true = went-down-intact count
+    either false = went-up-intact count
 
 pub begun-sound : (b : Beginning) (lent : ℕ) → b .f ≤ mostF → b .k ≤ mostK → b .status ≤ 1 → firstG ≤ b .g .0 → b .g .0 ≤ lastStartG
     → within (b .compromised) (nodes (b .f) (b .k)) ≡ true → size (b .compromised) ≤ b .f → nodes (b .f) (b .k) ≤ lent → siteSound (startedSite b) lent ≡ true
@@ -78,7 +78,7 @@ pub record TurnedSound (site : Site) (lent : ℕ) (out : Out) : Type 0 where
   pub node : Node
   pub is : out ≡ done silence (withDown site down) node
   pub of-site : siteSound (withDown site down) lent ≡ true
-  pub of-node : nodeSound node (n site) ≡ true
+  pub of-node : Intact node (n site)
 
 module _ (site : Site) (lent : ℕ) (sound : siteSound site lent ≡ true) where
   before : Tested site lent
@@ -134,9 +134,9 @@ module _ (site : Site) (lent : ℕ) (sound : siteSound site lent ≡ true) where
   pub turned-sound : (i : ℕ) (turn : Turn) → i < n site → TurnedSound site lent (turned site i turn)
   unfolding turned
   turned-sound i Down l =
-      record { down = _; node = _; is = refl; of-site = down-sound _ (joined-within (site .down) (n site) i (before .of-down) l); of-node = went-down-sound (n site) }
+      record { down = _; node = _; is = refl; of-site = down-sound _ (joined-within (site .down) (n site) i (before .of-down) l); of-node = went-down-intact (n site) }
   turned-sound i Up l =
-      record { down = _; node = _; is = refl; of-site = down-sound _ (without-within (site .down) (n site) i (before .of-down)); of-node = went-up-sound (n site) }
+      record { down = _; node = _; is = refl; of-site = down-sound _ (without-within (site .down) (n site) i (before .of-down)); of-node = went-up-intact (n site) }
 
   -- a command at clock t
   pub commanded-sound : (t : Dts) (act : Act) → act .status ≤ 1 → t .0 ≤ latestClock → fresh (act .stamp) t ≡ true

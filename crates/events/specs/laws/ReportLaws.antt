@@ -48,7 +48,7 @@ module _ (t : Dts) (A number : ℕ) where
   unfolding reported reportRunning reportStarting begun
   report-knowing Down b e = absurd (none-known e)
   report-knowing (Starting l) b e =
-      subst (λ (k : Known). Stamped A t b (onceKnown (record { r = Yes (pair A (reportStamp k t)); b = k; number = Number number })))
+      subst (λ (k : Known). Stamped A t b (onceKnown (record { r = Yes (pair A (reportStamp k t)); b = k; second = l .second; number = Number number })))
       (sym e) (_, refl, refl, refl)
   report-knowing (Running rec) b e = let q : rec .b ≡ b = same-known (rec .b) b e in (_, refl, ap (λ (x : Pair). pair A (larger t (x .stamp))) q, q)
 
@@ -57,7 +57,7 @@ module _ (t : Dts) (A number : ℕ) where
   unfolding reported reportRunning reportStarting begun
   report-unknowing Down up e = absurd (false≢true up)
   report-unknowing (Starting l) up e =
-      subst (λ (k : Known). Told A t (onceKnown (record { r = Yes (pair A (reportStamp k t)); b = k; number = Number number }))) (sym e) (_, refl, refl)
+      subst (λ (k : Known). Told A t (onceKnown (record { r = Yes (pair A (reportStamp k t)); b = k; second = l .second; number = Number number }))) (sym e) (_, refl, refl)
   report-unknowing (Running rec) up e = absurd (none-known (sym e))
 
   -- a report shares its status with t and with t + 1 exactly when the node runs, was not in Attempt, and b has another status

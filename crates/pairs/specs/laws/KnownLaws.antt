@@ -6,10 +6,7 @@ use lib.Dec.{eqb}
 use Rattle.pairs.specs.declared.Pair.{Pair}
 use Rattle.pairs.specs.declared.Known.{Known}
 use Rattle.pairs.specs.declared.Known.the-variants.{Yes, No}
-
-abbrev pub isKnown : Known → Bool
-isKnown (Yes p) = true
-isKnown No = false
+pub use Rattle.pairs.specs.Pair.{isKnown}
 
 -- it is known, and has this status
 abbrev pub knownAs : ℕ → Known → Bool

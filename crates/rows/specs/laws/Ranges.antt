@@ -21,14 +21,15 @@ use Rattle.node.specs.declared.Resend.the-variants.{Armed, Off}
 use Rattle.node.specs.declared.Phase.{Phase}
 use Rattle.node.specs.declared.Phase.the-variants.{Starting, Running, Down as NotUp}
 use Rattle.node.specs.declared.Node.{Node}
-use Rattle.node.specs.Asked.{lastNumber, newAfter, isNew, inAttempt, armed, knownSound, resendSound, nodeSound}
+use Rattle.pairs.specs.Pair.{isKnown}
+use Rattle.node.specs.Asked.{lastNumber, newAfter, isNew, inAttempt, armed, knownSound, resendSound, phaseSound, nodeInRange, notAbove, secondSound, nodeSound}
 use Rattle.breaker.specs.declared.Changes.{Changes}
 use Rattle.breaker.specs.Breaker.{mostChanges, pairAt, pairSound, allSound, changesSound}
 use Rattle.refusing.specs.Tests.{nodeClock}
 use Rattle.rows.specs.Exactly.{Tells}
 use Rattle.rows.specs.Outsiders.{Outsider}
 use Rattle.rows.specs.laws.Outsiders.{outsider}
-use Rattle.rows.specs.Conditions.{ClockTooLate, KnownTooLate, ResendTooLate, SenderOutside, PairOutOfRange, ChangesOutOfRange, PhaseTooLate, NotNewAfter, NotInAttempt, NoStampResent}
+use Rattle.rows.specs.Conditions.{ClockTooLate, KnownTooLate, ResendTooLate, SenderOutside, PairOutOfRange, ChangesOutOfRange, PhaseTooLate, SecondAbove, NoSecond, SecondOutOfOrder, NotNewAfter, NotInAttempt, NoStampResent}
 use Rattle.rows.specs.laws.Telling.{above, equal, _or_, worded, spelled}
 
 -- one of the first places of a list that a rule makes
@@ -70,7 +71,7 @@ pub changes-tell : (changes : Changes) → Tells (changesSound changes) (Changes
 unfolding changesSound
 changes-tell changes = above (changes .count) 8 or pairs-tell mostChanges (pairAt changes)
 
-known-tells : (k : Known) → Tells (knownSound k) (KnownTooLate k)
+pub known-tells : (k : Known) → Tells (knownSound k) (KnownTooLate k)
 known-tells (Yes p) = above (p .stamp .0) lastHeldStamp
 known-tells No = (λ e. absurd (true≢false e), absurd)
 
@@ -78,28 +79,49 @@ resend-tells : (r : Resend) → Tells (resendSound r) (ResendTooLate r)
 resend-tells (Armed T) = above (T .0) lastHeldStamp
 resend-tells Off = (λ e. absurd (true≢false e), absurd)
 
+nothing-told : Tells true ⊥
+nothing-told = (λ e. absurd (true≢false e), absurd)
+
+phase-tells : (p : Phase) → Tells (phaseSound p) (PhaseTooLate p)
+phase-tells NotUp = nothing-told
+phase-tells (Starting l) =
+    spelled (and-assoc (knownSound (l .r)) (knownSound (l .b)) (knownSound (l .second))) (known-tells (l .r) or known-tells (l .b) or known-tells (l .second))
+phase-tells (Running rec) =
+    spelled
+    (and-assoc (stampSound (rec .r .stamp) && stampSound (rec .b .stamp)) (resendSound (rec .resend)) (knownSound (rec .second))
+    ∙ and-assoc (stampSound (rec .r .stamp)) (stampSound (rec .b .stamp)) (resendSound (rec .resend) && knownSound (rec .second)))
+    (above (rec .r .stamp .0) lastHeldStamp or above (rec .b .stamp .0) lastHeldStamp or resend-tells (rec .resend) or known-tells (rec .second))
+
+above-tells : (second b : Known) → Tells (notAbove second b) (SecondAbove second b)
+above-tells (Yes second) (Yes b) = above (second .stamp .0) (b .stamp .0)
+above-tells (Yes second) No = nothing-told
+above-tells No b = nothing-told
+
+none-tells : (second : Known) → Tells (isKnown second) (NoSecond second)
+none-tells (Yes second) = nothing-told
+none-tells No = (λ e. tt, λ h. refl)
+
+second-tells : (p : Phase) → Tells (secondSound p) (SecondOutOfOrder p)
+second-tells NotUp = nothing-told
+second-tells (Starting l) = above-tells (l .second) (l .b)
+second-tells (Running rec) = none-tells (rec .second) or above-tells (rec .second) (Yes (rec .b))
+
 -- for a node by its phase and its store
 module _ (s : Store) where
   abbrev at : Phase → Node
   at p = record { phase = p; store = s }
 
   abbrev RecordTooLate : Phase → ℕ → Type 0
-  RecordTooLate p n = ClockTooLate (s .clock) ⊎ SenderOutside s n ⊎ PhaseTooLate p
+  RecordTooLate p n = ClockTooLate (s .clock) ⊎ SenderOutside s n ⊎ PhaseTooLate p ⊎ SecondOutOfOrder p
 
-  -- the three tests of a record in the order of the words
+  -- the four tests of a record in the order of the words
   record-tells : (p : Phase) (n : ℕ) → Tells (nodeSound (at p) n) (RecordTooLate p n)
-  unfolding nodeSound
-  record-tells NotUp n =
-      spelled (and-assoc (clockSound (s .clock)) (storeWithin s n) true)
-      (above (s .clock .0) lastHeldClock or store-tells s n or (λ e. absurd (true≢false e), absurd))
-  record-tells (Starting l) n =
-      spelled (and-assoc (clockSound (s .clock)) (storeWithin s n) (knownSound (l .r) && knownSound (l .b)))
-      (above (s .clock .0) lastHeldClock or store-tells s n or (known-tells (l .r) or known-tells (l .b)))
-  record-tells (Running rec) n =
+  unfolding nodeSound nodeInRange
+  record-tells p n =
       spelled
-      (and-assoc (clockSound (s .clock)) (storeWithin s n) (stampSound (rec .r .stamp) && stampSound (rec .b .stamp) && resendSound (rec .resend))
-      ∙ ap (λ (x : Bool). clockSound (s .clock) && (storeWithin s n && x)) (and-assoc (stampSound (rec .r .stamp)) (stampSound (rec .b .stamp)) (resendSound (rec .resend))))
-      (above (s .clock .0) lastHeldClock or store-tells s n or (above (rec .r .stamp .0) lastHeldStamp or above (rec .b .stamp .0) lastHeldStamp or resend-tells (rec .resend)))
+      (and-assoc (clockSound (s .clock) && storeWithin s n) (phaseSound p) (secondSound p)
+      ∙ and-assoc (clockSound (s .clock)) (storeWithin s n) (phaseSound p && secondSound p))
+      (above (s .clock .0) lastHeldClock or store-tells s n or phase-tells p or second-tells p)
 
   attempt-tells : (p : Phase) → Tells (inAttempt (at p)) (NotInAttempt p)
   attempt-tells NotUp = (λ e. tt, λ h. refl)
@@ -115,7 +137,7 @@ module _ (s : Store) where
       isOff (Armed T) = false
       isOff Off = true
 
-      go : (r : Resend) → rec .resend ≡ r → Tells (armed (at (Running (record { r = rec .r; b = rec .b; number = rec .number; resend = r })))) (r ≡ Off)
+      go : (r : Resend) → rec .resend ≡ r → Tells (armed (at (Running (record { r = rec .r; b = rec .b; second = rec .second; number = rec .number; resend = r })))) (r ≡ Off)
       go (Armed T) e = (λ h. absurd (true≢false h), λ h. absurd (true≢false (sym (ap isOff h))))
       go Off e = (λ h. refl, λ h. refl)
 
@@ -135,7 +157,7 @@ newer-tells number Unknown = (λ e. absurd (true≢false e), absurd)
 pub new-tells : (node : Node) (number : ℕ) → Tells (isNew node number) (NotNewAfter number (lastNumber (node .phase)))
 new-tells node number = newer-tells number (lastNumber (node .phase))
 
-pub node-tells : (node : Node) (n : ℕ) → Tells (nodeSound node n) (ClockTooLate (nodeClock node) ⊎ SenderOutside (node .store) n ⊎ PhaseTooLate (node .phase))
+pub node-tells : (node : Node) (n : ℕ) → Tells (nodeSound node n) (ClockTooLate (nodeClock node) ⊎ SenderOutside (node .store) n ⊎ PhaseTooLate (node .phase) ⊎ SecondOutOfOrder (node .phase))
 node-tells node n = record-tells (node .store) (node .phase) n
 
 pub in-attempt-tells : (node : Node) → Tells (inAttempt node) (NotInAttempt (node .phase))

@@ -23,7 +23,7 @@ use Rattle.steps.specs.declared.Step.{Step}
 use Rattle.steps.specs.declared.Step.the-variants.{Start}
 use Rattle.steps.specs.Named.{report, named, isKind}
 use Rattle.told.specs.Telling.{knownIn}
-use Rattle.told.specs.laws.Armed.{ArmedAs}
+use Rattle.told.specs.laws.Armed.{ArmedAs, ArmedIn}
 use Rattle.site.specs.declared.Sent.{Sent}
 use Rattle.site.specs.declared.Answer.{Answer}
 use Rattle.site.specs.declared.Answer.the-variants.{Done, Refused}
@@ -91,7 +91,7 @@ pub resends-b : Always ResendsB
 resends-b first h m r b q j c rec is T armed =
     let all : ArmedAs (Yes (rec .r)) (Yes (rec .b)) (Armed T) =
     subst (ArmedAs (Yes (rec .r)) (Yes (rec .b))) armed
-    (subst (λ (p : Phase). ArmedAs (knownR p) (knownB p) (knownIn p .resend)) is (reached-told r b q .nodes-told j c .armed)) in
+    (subst (λ (p : Phase). ArmedIn (knownIn p)) is (reached-told r b q .nodes-told j c .armed)) in
     let same : rec .b ≡ all .0 = same-known (rec .b) (all .0) (all .1) in
     (ap (λ (p : Pair). p .stamp) same ∙ all .2, eqb-true (rec .r .status) (rec .b .status) (all .3))
 

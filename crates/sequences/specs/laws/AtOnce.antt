@@ -64,10 +64,14 @@ itself p = simp (eq-eqb (p .status) (p .status) refl, eq-eqb (p .stamp .0) (p .s
 
 -- ---- what is sent again
 
-resent : (resend : Resend) (b : Known) (A : ℕ) (T : Dts) → has (listedKnown (againOf resend b)) A T ≡ true → IsResent resend b A T
-resent (Armed U) (Yes p) A T e = only-one _ A T e
-resent (Armed U) No A T e = absurd (false≢true e)
-resent Off b A T e = absurd (false≢true e)
+resent : (t : Dts) (resend : Resend) (b : Known) (A : ℕ) (T : Dts) → has (listedKnown (againOf t resend b)) A T ≡ true → IsResent resend b A T
+resent t (Armed U) (Yes p) A T e = go (fresh U t) e
+  where
+    go : (x : Bool) → has (listedKnown (cond x (Yes (pair (p .status) U)) No)) A T ≡ true → (A ≡ p .status) × (T .0 ≡ U .0)
+    go true e = only-one _ A T e
+    go false e = absurd (false≢true e)
+resent t (Armed U) No A T e = absurd (false≢true e)
+resent t Off b A T e = absurd (false≢true e)
 
 module _ (b : Beginning) (a : Accepted) (before : List Accepted) (j : ℕ) (t : Dts) (event : Event) where
   abbrev n : ℕ
@@ -77,10 +81,10 @@ module _ (b : Beginning) (a : Accepted) (before : List Accepted) (j : ℕ) (t : 
   held = heldThen before a j t
 
   abbrev again : Known
-  again = againBy (saidBy event) (toldTo b j before .resend) (toldTo b j before .b)
+  again = againBy (saidBy event) t (toldTo b j before .resend) (toldTo b j before .b)
 
   abbrev rule : Known
-  rule = combinedOf n (b .f) t held (rThen b before j t event) (bThen b before j event)
+  rule = combinedOf n (b .f) t held (rThen b before j t event) (bThen b before j t event)
 
   abbrev test : Pair → Pair → ℕ → Bool
   test r p = isEnough n (b .f) (p .stamp) (held (r .status))
@@ -98,13 +102,13 @@ module _ (b : Beginning) (a : Accepted) (before : List Accepted) (j : ℕ) (t : 
   earliest-of : (r p : Pair) (U : Dts) → IsFirst t (test r p) U → IsEarliest b a before j t event (r .status) p U
   earliest-of r p U first = (enough-of r p U (first .is-fresh) (first .passes), λ W enough. first .earliest (W .0) (enough .0) (tested r p W enough))
 
-  ruled : (r p : Pair) → rThen b before j t event ≡ Yes r → bThen b before j event ≡ Yes p → attempts r p ≡ true
+  ruled : (r p : Pair) → rThen b before j t event ≡ Yes r → bThen b before j t event ≡ Yes p → attempts r p ≡ true
       → rule ≡ commandAt (r .status) (firstOf (test r p) (freshStamps t))
   ruled r p is-r is-p attempting =
       ap₂ (combinedOf n (b .f) t held) is-r is-p ∙ ap (λ (x : Bool). cond x (commandAt (r .status) (firstOf (test r p) (freshStamps t))) No) attempting
 
   -- a command of the rule
-  by-rule : (x y : Known) → rThen b before j t event ≡ x → bThen b before j event ≡ y → (A : ℕ) (T : Dts) → has (listedKnown (combinedOf n (b .f) t held x y)) A T ≡ true
+  by-rule : (x y : Known) → rThen b before j t event ≡ x → bThen b before j t event ≡ y → (A : ℕ) (T : Dts) → has (listedKnown (combinedOf n (b .f) t held x y)) A T ≡ true
       → (p : Pair) × Attempts b a before j t event A p × IsEarliest b a before j t event A p T
   by-rule (Yes r) (Yes p) is-r is-p A T = go (attempts r p) (firstOf (test r p) (freshStamps t)) refl refl
     where
@@ -147,11 +151,11 @@ module _ (b : Beginning) (a : Accepted) (before : List Accepted) (j : ℕ) (t : 
           → (IsResent (toldTo b j before .resend) (toldTo b j before .b) A T × (saidBy event .kind ≡ resendTimeout)) ⊎ ((p : Pair) × Attempts b a before j t event A p × IsEarliest b a before j t event A p T)
       from {A} {T} (inl h) = inl (go (isKind (saidBy event .kind) resendTimeout) refl h)
         where
-          go : (x : Bool) → isKind (saidBy event .kind) resendTimeout ≡ x → has (listedKnown (cond x (againOf (toldTo b j before .resend) (toldTo b j before .b)) No)) A T ≡ true
+          go : (x : Bool) → isKind (saidBy event .kind) resendTimeout ≡ x → has (listedKnown (cond x (againOf t (toldTo b j before .resend) (toldTo b j before .b)) No)) A T ≡ true
               → IsResent (toldTo b j before .resend) (toldTo b j before .b) A T × (saidBy event .kind ≡ resendTimeout)
-          go true e h = (resent (toldTo b j before .resend) (toldTo b j before .b) A T h, kind-is (saidBy event .kind) resendTimeout .0 (ap not e))
+          go true e h = (resent t (toldTo b j before .resend) (toldTo b j before .b) A T h, kind-is (saidBy event .kind) resendTimeout .0 (ap not e))
           go false e h = absurd (false≢true h)
-      from {A} {T} (inr h) = inr (by-rule (rThen b before j t event) (bThen b before j event) refl refl A T h)
+      from {A} {T} (inr h) = inr (by-rule (rThen b before j t event) (bThen b before j t event) refl refl A T h)
 
 -- ---- every step
 

@@ -1,5 +1,5 @@
 -- What the accepted changes are, step by step: the breaker has the status that they are told by, each was shared before by a correct node, and their
--- stamps rise.
+-- stamps rise, from the Start's g on.
 use Prim.Native.Nat.{ℕ, _≤_, _<_}
 use mathlib.Core.Path.{_≡_, refl, sym, ap, subst, _∙_}
 use mathlib.Core.Bool.{Bool, true, false}
@@ -45,7 +45,7 @@ use Rattle.sequences.specs.laws.Keeps.{Keeps}
 use Rattle.sequences.specs.laws.Reaching.{no-start, reached-keeps}
 
 -- what all of a list are, if it follows from what they are
-each-so : {A : Type 0} (P Q : A → Type 0) → ((a : A) → P a → Q a) → (l : List A) → Each P l → Each Q l
+pub each-so : {A : Type 0} (P Q : A → Type 0) → ((a : A) → P a → Q a) → (l : List A) → Each P l → Each Q l
 each-so P Q so [] h = tt
 each-so P Q so (a ∷ rest) h = (so a (h .0), each-so P Q so rest (h .1))
 
@@ -59,6 +59,8 @@ pub record Changing (b : Beginning) (steps : List Accepted) (site : Site) : Type
   pub shared : Each (SharedEarlier b) (changesIn (b .status) steps)
   pub rising : Rising (changesIn (b .status) steps)
   pub not-above : Each (NotAbove (site .breaker .pair .stamp)) (changesIn (b .status) steps)
+  pub since : b .g .0 ≤ site .breaker .pair .stamp .0
+  pub after-g : Each (λ c. b .g .0 < c .stamp .0) (changesIn (b .status) steps)
 
 abbrev stampOf : Known → ℕ
 stampOf (Yes p) = p .stamp .0
@@ -76,6 +78,8 @@ module _ (b : Beginning) (steps : List Accepted) (site : Site) (before : Changin
         not-above =
             subst (λ (cs : List Change). Each (NotAbove (next .breaker .pair .stamp)) cs) (sym no-more)
             (subst (λ (p : Pair). Each (NotAbove (p .stamp)) (changesIn (b .status) steps)) (sym same) (before .not-above));
+        since = subst (λ (p : Pair). b .g .0 ≤ p .stamp .0) (sym same) (before .since);
+        after-g = subst (Each (λ c. b .g .0 < c .stamp .0)) (sym no-more) (before .after-g);
       }
 
   module _ (number : ℕ) (t : Dts) (A : ℕ) (T : Dts) where
@@ -100,6 +104,8 @@ module _ (b : Beginning) (steps : List Accepted) (site : Site) (before : Changin
                 (least, λ p is. let z : larger T t .0 ≡ p .stamp .0 = ap stampOf is in omega arith),
                 each-so (NotAbove (site .breaker .pair .stamp)) (NotAbove (larger T t)) (still higher least) (changesIn (b .status) steps) (before .not-above),
               ));
+          since = let old = before .since in subst (λ (p : Pair). b .g .0 ≤ p .stamp .0) (sym same) (omega (arith, old, higher, least));
+          after-g = let old = before .since in subst (Each (λ c. b .g .0 < c .stamp .0)) list (omega (arith, old, higher), before .after-g);
         }
       where
         a : Accepted
@@ -138,7 +144,7 @@ module _
 
     starts : (b : Beginning) → Changing b [] (startedSite b)
     unfolding startedSite started
-    starts b = record { status = refl; shared = tt; rising = tt; not-above = tt }
+    starts b = record { status = refl; shared = tt; rising = tt; not-above = tt; since = omega arith; after-g = tt }
 
     commanding : (node : Node) (t : Dts) (A : ℕ) (T : Dts) → Passes site (length records) node (commands t A T)
         → ChangedBy (commands t A T) (commanded site node t (record { status = A; stamp = T }))

@@ -26,7 +26,7 @@ use Rattle.acting.specs.laws.Running.{remembers, goes-on}
 use Rattle.acting.specs.laws.Stores.{clock-of, still-empty}
 use Rattle.told.specs.Telling.{Knows, nothing, knowsAfter, lastOf, knownIn}
 use Rattle.told.specs.laws.Exact.{Suits, told-by}
-use Rattle.told.specs.laws.Armed.{ArmedAs}
+use Rattle.told.specs.laws.Armed.{ArmedIn}
 use Rattle.told.specs.laws.Ending.{event-known, event-armed}
 use Rattle.site.specs.Answers.{silence}
 use Rattle.refusing.specs.Tests.{phaseTakes}
@@ -53,7 +53,7 @@ pub record NodeTells (k : Knows) (own : List Accepted) (node : Node) : Type 0 wh
   pub knows : knownIn (node .phase) ≡ k
   pub is-down : phaseDown (node .phase) ≡ isDownTold own
   pub last-clock : node .store .clock ≡ lastClockTold own
-  pub armed : ArmedAs (knownR (node .phase)) (knownB (node .phase)) (knownIn (node .phase) .resend)
+  pub armed : ArmedIn (knownIn (node .phase))
   pub idle : phaseRunning (node .phase) ≡ false → node .store ≡ empty (node .store .clock)
 
 -- an event that it takes

@@ -27,7 +27,7 @@ use Rattle.lent.specs.Lent.{recordOf, outOf, tableAfter, tableAfterAnswer}
 use Rattle.lent.specs.laws.LentLaws.{named-within}
 use Rattle.stepping.specs.laws.StepLaws.{by-tests}
 use Rattle.sequences.specs.Moments.{Moment, Accepts, nodeAt}
-use Rattle.sequences.specs.laws.Reporting.{phaseAfter}
+use Rattle.sequences.specs.laws.OneEvent.{phaseAfter}
 
 -- A step at node j that is no Report, and neither takes the node down nor brings it up, leaves r as it was.
 abbrev pub RelayByReports : Type 0

@@ -44,7 +44,7 @@ use Rattle.acting.specs.Acting.{changedBy, acted}
 use Rattle.acting.specs.laws.ByEvent.{left-by}
 use Rattle.acting.specs.laws.Running.{remembers, goes-on}
 use Rattle.acting.specs.laws.Stores.{clock-of, still-empty}
-use Rattle.told.specs.Telling.{Knows, relayBy, heardBy, sharesBy, againBy, combinedOf, knownIn}
+use Rattle.told.specs.Telling.{Knows, relayBy, breakerBy, sharesBy, againBy, combinedOf, knownIn}
 use Rattle.told.specs.laws.Exact.{told-by}
 use Rattle.told.specs.laws.Ending.{event-shares, event-commands}
 use Rattle.told.specs.laws.Rule.{by-rule}
@@ -68,7 +68,7 @@ use Rattle.sequences.specs.laws.OfBreaker.{change-numbered}
 use Rattle.sequences.specs.laws.NodeTold.{NodeTells, suits}
 use Rattle.sequences.specs.laws.SiteTold.{Tells}
 use Rattle.sequences.specs.laws.StateTold.{reached-told}
-use Rattle.sequences.specs.laws.Soundness.{node-sound}
+use Rattle.sequences.specs.laws.Soundness.{in-range}
 use Rattle.sequences.specs.laws.AtOnce.{each-sends}
 
 -- ---- an event at node i
@@ -129,7 +129,7 @@ module _
 
       -- what the combining rule sends
       rule-so : ended (changedBy (site .breaker) p t event .phase) (end .node .store) (site .f) .command
-          ≡ combinedOf (nodes (b .f) (b .k)) (b .f) t (heldThen steps a i t) (rThen b steps i t event) (bThen b steps i event)
+          ≡ combinedOf (nodes (b .f) (b .k)) (b .f) t (heldThen steps a i t) (rThen b steps i t event) (bThen b steps i t event)
       rule-so =
           by-rule (nodes (b .f) (b .k)) (site .f) (end .node .store) t (heldThen steps a i t) at late (keeps .few-nodes) held-so
           (λ A T s e. within-held (end .node .store) (nodes (b .f) (b .k)) A T s within e) (changedBy (site .breaker) p t event .phase)
@@ -137,16 +137,16 @@ module _
           ∙ ap (λ (x : Knows). combinedOf (nodes (b .f) (b .k)) (site .f) t (heldThen steps a i t) (x .r) (x .b))
           (told-by (site .breaker) t event p .knows up (suits p (saidBy event .kind) takes) known)
           ∙ ap₂ (λ (x : Knows) (f : ℕ).
-          combinedOf (nodes (b .f) (b .k)) f t (heldThen steps a i t) (relayBy (saidBy event) t (x .b) (x .r)) (heardBy (saidBy event) (changeAt (site .breaker)) (site .breaker .pair) (x .b))) knows (keeps .same-f)
+          combinedOf (nodes (b .f) (b .k)) f t (heldThen steps a i t) (relayBy (saidBy event) t (x .b) (x .r)) (breakerBy (saidBy event) t (changeAt (site .breaker)) (site .breaker .pair) x)) knows (keeps .same-f)
           ∙ ap₂ (λ (change : ℕ → Known) (now : Pair).
-          combinedOf (nodes (b .f) (b .k)) (b .f) t (heldThen steps a i t) (relayBy (saidBy event) t (k .b) (k .r)) (heardBy (saidBy event) change now (k .b)))
+          combinedOf (nodes (b .f) (b .k)) (b .f) t (heldThen steps a i t) (relayBy (saidBy event) t (k .b) (k .r)) (breakerBy (saidBy event) t change now k))
           (fun-ext (λ back. ap (λ (x : Breaker). changeAt x back) (told .breaker) ∙ change-numbered _ _ (changePairs b steps) back)) (ap (λ (x : Breaker). x .pair) (told .breaker))
 
       commands-so : listed (end .commands) ≡ commandsTold b steps a (AtNode i t event)
       unfolding acted finished
       commands-so =
           event-commands (site .breaker) node i (site .f) t event up (suits p (saidBy event .kind) takes) known (told .nodes-told i c .armed)
-          ∙ ap₂ (λ (x y : Known). listedKnown x ++ listedKnown y) (ap (λ (x : Knows). againBy (saidBy event) (x .resend) (x .b)) knows) rule-so
+          ∙ ap₂ (λ (x y : Known). listedKnown x ++ listedKnown y) (ap (λ (x : Knows). againBy (saidBy event) t (x .resend) (x .b)) knows) rule-so
 
       pub event-sent : SentSo b a steps
       event-sent = record { shares = shares-so; commands = commands-so; ack = refl }
@@ -229,7 +229,7 @@ reached-sent {first} (then {h} {m} r step) = λ b q.
     (record {
       keeps-on = reached-keeps (then r step) b q;
       still-told = reached-told (then r step) b q;
-      within = λ j l. parts (nodeAt (afterStep m step) j) (nodes (b .f) (b .k)) (node-sound first (entry m step ∷ h) (afterStep m step) (then r step) b q j l) .of-store;
+      within = λ j l. parts (nodeAt (afterStep m step) j) (nodes (b .f) (b .k)) (in-range first (entry m step ∷ h) (afterStep m step) (then r step) b q j l) .of-store;
     })
 
 pub sent-as-told : Always SentAsTold

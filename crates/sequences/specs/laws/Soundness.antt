@@ -1,4 +1,5 @@
--- A site that came from a Start passes refusal 16, and so does the record of each of its nodes: what 16 asks of them is kept by every step.
+-- A site that came from a Start passes refusal 16, and so does the record of each of its nodes: every step keeps what 16 asks of a site, and of a record that
+-- its numbers are in range and that its second pair is no later than b, and known where b is.
 use Prim.Native.Nat.{ℕ, _≤_, _<_}
 use mathlib.Core.Path.{_≡_, refl, sym, ap₂, subst}
 use mathlib.Core.Bool.{Bool, true, false, _&&_, _||_, cond, and-eq-true-iff}
@@ -12,9 +13,9 @@ use Rattle.refusals.specs.laws.Bools.{left}
 use Rattle.time.specs.declared.Dts.{Dts}
 use Rattle.senders.specs.Masks.{isIn}
 use Rattle.node.specs.declared.Node.{Node}
-use Rattle.node.specs.Asked.{nodeSound}
+use Rattle.node.specs.Asked.{nodeInRange, nodeSound}
+use Rattle.node.specs.laws.Soundness.{Intact, intact-sound, FollowsIn}
 use Rattle.events.specs.Events.{wentDown, wentUp}
-use Rattle.events.specs.laws.Soundness.{went-down-sound, went-up-sound}
 use Rattle.steps.specs.declared.Beginning.{Beginning}
 use Rattle.steps.specs.declared.Event.{Event}
 use Rattle.steps.specs.declared.Turn.{Turn}
@@ -24,7 +25,7 @@ use Rattle.steps.specs.declared.Step.the-variants.{Start, Tick, AtNode, Life, A
 use Rattle.steps.specs.Named.{saidBy, named, ofNamed}
 use Rattle.steps.specs.laws.Naming.{if-named}
 use Rattle.acting.specs.Acting.{acted}
-use Rattle.acting.specs.laws.Soundness.{acted-sound}
+use Rattle.acting.specs.laws.Soundness.{acted-in-range, acted-follows}
 use Rattle.site.specs.declared.Site.{Site}
 use Rattle.site.specs.declared.Out.{Out}
 use Rattle.site.specs.Site.{nodes, n, siteSound, actorSound}
@@ -32,7 +33,7 @@ use Rattle.site.specs.laws.Sound.{tested}
 use Rattle.refusing.specs.Tests.{isNode, areSound, unlessStart}
 use Rattle.refusing.specs.laws.Accepted.{Passes, row-passed, begins, begins-within, ticks, happens, turns, at-breaker}
 use Rattle.effects.specs.Effects.{startedSite, firstRecord, ticked, act, commanded, effectOf}
-use Rattle.effects.specs.laws.Soundness.{first-sound, begun-sound, ticked-sound, noted-sound, turned-sound, commanded-sound}
+use Rattle.effects.specs.laws.Soundness.{first-intact, begun-sound, ticked-sound, noted-sound, turned-sound, commanded-sound}
 use Rattle.stepping.specs.laws.StepLaws.{by-tests}
 use Rattle.rows.specs.laws.Cases.{not-given}
 use Rattle.lent.specs.Lent.{recordOf, outOf, tableAfter, tableAfterAnswer}
@@ -40,27 +41,27 @@ use Rattle.loans.specs.laws.LoanLaws.{front, begun-length}
 use Rattle.sequences.specs.History.{Entry, lastStart}
 use Rattle.sequences.specs.Moments.{Moment, Reached, from, then, nodeAt}
 use Rattle.sequences.specs.Demand.{Always}
-use Rattle.sequences.specs.State.{NeverDamaged}
+use Rattle.sequences.specs.State.{NeverDamaged, NeverAbove}
 use Rattle.sequences.specs.laws.Reaching.{no-start, reached-keeps}
 
 -- what 16 asks of a site, of the length of its table and of its nodes' records
 pub record Sound (site : Site) (records : List Node) : Type 0 where
   pub of-site : siteSound site (length records) ≡ true
-  pub of-nodes : (j : ℕ) → j < n site → nodeSound (getD records j wentDown) (n site) ≡ true
+  pub of-nodes : (j : ℕ) → j < n site → Intact (getD records j wentDown) (n site)
 
 -- a step at node i
 at-node : (site next : Site) (records : List Node) (i : ℕ) (node : Node) → Sound site records → n next ≡ n site → i < length records
-    → siteSound next (length records) ≡ true → nodeSound node (n site) ≡ true → Sound next (set records i node)
+    → siteSound next (length records) ≡ true → Intact node (n site) → Sound next (set records i node)
 at-node site next records i node before same lent whole new =
     record {
       of-site = subst (λ (count : ℕ). siteSound next count ≡ true) (sym (length-set records i node)) whole;
       of-nodes = λ j l.
-          subst (λ (count : ℕ). nodeSound (getD (set records i node) j wentDown) count ≡ true) (sym same)
+          subst (Intact (getD (set records i node) j wentDown)) (sym same)
           (one j (subst (λ (count : ℕ). j < count) same l) (eqb j i) refl);
     }
   where
     IsSound : Node → Type 0
-    IsSound x = nodeSound x (n site) ≡ true
+    IsSound x = Intact x (n site)
 
     one : (j : ℕ) → j < n site → (x : Bool) → eqb j i ≡ x → IsSound (getD (set records i node) j wentDown)
     one j l true e =
@@ -92,8 +93,8 @@ module _ (h : List Entry) (site : Site) (records : List Node) (before : (b : Beg
             subst (λ (count : ℕ). siteSound (startedSite first) count ≡ true) (sym (begun-length (first .compromised) records count (begun .lends)))
             (begun-sound first (length records) (begun .most-f) (begun .most-k) (given .is-status) (given .first-g) (given .last-g) (given .inside) (begun .few) (begun .lends));
         of-nodes = λ j l.
-            subst (λ (x : Node). nodeSound x count ≡ true) (sym (front count (firstRecord (first .compromised)) (drop count records) j wentDown l))
-            (first-sound (first .compromised) j count);
+            subst (λ (x : Node). Intact x count) (sym (front count (firstRecord (first .compromised)) (drop count records) j wentDown l))
+            (first-intact (first .compromised) j count);
       }
     where
       count : ℕ
@@ -113,9 +114,13 @@ module _ (h : List Entry) (site : Site) (records : List Node) (before : (b : Beg
       let s = before b q in
       at-node site _ records i _ s refl (x .place .is-lent)
       (noted-sound site (length records) (s .of-site) i (acted (site .breaker) node i (site .f) t event .shares) (x .place .is-node))
-      (acted-sound (site .breaker) node i (site .f) (n site) t event (x .not-back) (x .not-late) (x .place .is-node)
-      (if-named (isNode site) (λ k. k < n site) (λ k is. ltb-true _ _ is) (saidBy event .sender) (left _ _ (x .in-range)))
-      (tested site (length records) (s .of-site) .of-breaker) (s .of-nodes i (x .place .is-node)))
+      (record {
+        in-range =
+            acted-in-range (site .breaker) node i (site .f) (n site) t event (x .not-back) (x .not-late) (x .place .is-node)
+            (if-named (isNode site) (λ k. k < n site) (λ k is. ltb-true _ _ is) (saidBy event .sender) (left _ _ (x .in-range)))
+            (tested site (length records) (s .of-site) .of-breaker) (s .of-nodes i (x .place .is-node) .in-range);
+        follows = acted-follows (site .breaker) node i (site .f) t event (s .of-nodes i (x .place .is-node) .follows);
+      })
 
   takes-turn : (i : ℕ) (turn : Turn) → Does (Life i turn)
   unfolding effectOf
@@ -174,7 +179,18 @@ site-sound first h m r b q = reached-sound r b q .of-site
 
 pub node-sound : Always NodesSound
 node-sound first h m r b q =
-    subst (λ (count : ℕ). (j : ℕ) → j < count → nodeSound (nodeAt m j) count ≡ true) (same-n r b q) (reached-sound r b q .of-nodes)
+    subst (λ (count : ℕ). (j : ℕ) → j < count → nodeSound (nodeAt m j) count ≡ true) (same-n r b q)
+    (λ j l. intact-sound (nodeAt m j) (n (m .site)) (reached-sound r b q .of-nodes j l))
+
+-- its numbers, the senders of its store among them
+pub in-range : Always λ h m b. (j : ℕ) → j < nodes (b .f) (b .k) → nodeInRange (nodeAt m j) (nodes (b .f) (b .k)) ≡ true
+in-range first h m r b q =
+    subst (λ (count : ℕ). (j : ℕ) → j < count → nodeInRange (nodeAt m j) count ≡ true) (same-n r b q) (λ j l. reached-sound r b q .of-nodes j l .in-range)
+
+-- "it is never above b's stamp"
+pub never-above : Always NeverAbove
+never-above first h m r b q =
+    subst (λ (count : ℕ). (j : ℕ) → j < count → FollowsIn (nodeAt m j .phase)) (same-n r b q) (λ j l. reached-sound r b q .of-nodes j l .follows)
 
 pub long-enough : Always LongEnough
 long-enough first h m r b q =
@@ -188,7 +204,7 @@ passes-16 site records step s = go (named step .beginning) (named step .actor)
   where
     below : (i : ℕ) (x : Bool) → leb (n site) i ≡ x → (x || nodeSound (getD records i wentDown) (n site)) ≡ true
     below i true e = refl
-    below i false e = s .of-nodes i (leb-false _ _ e)
+    below i false e = intact-sound (getD records i wentDown) (n site) (s .of-nodes i (leb-false _ _ e))
 
     of-actor : (actor : Option ℕ) → ofNamed actor (actorSound site (recordOf actor records)) ≡ true
     of-actor none = refl

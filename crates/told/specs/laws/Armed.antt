@@ -13,8 +13,8 @@ use Rattle.pairs.specs.declared.Known.the-variants.{Yes, No}
 use Rattle.node.specs.declared.Resend.{Resend}
 use Rattle.node.specs.declared.Resend.the-variants.{Armed, Off}
 use Rattle.steps.specs.Named.{report, query, Said, isKind}
-use Rattle.told.specs.Telling.{areDone, reportedAs, relayBy, laterOf, ackedAs, heardBy, sameStatus, isAckOf, resendBy}
-use Rattle.told.specs.laws.Exact.{AckOrReport, off-stays}
+use Rattle.told.specs.Telling.{Knows, areDone, reportedAs, relayBy, laterOf, ackedAs, heardBy, givesUpBy, returnsTo, sameStatus, isAckOf, leavesDone, knowsAfter}
+use Rattle.told.specs.laws.Exact.{AckOrReport}
 
 -- the stamp T is resent: b has it, and r and b agree
 abbrev pub Resends : Known → Known → Dts → Type 0
@@ -75,9 +75,16 @@ module _ (said : Said) (changeNumber : ℕ → Known) (now : Pair) (t : Dts) (r 
       (subst (λ (x : Known). areDone r′ (ackedAs (said .back) changeNumber x) ≡ true) is (subst (λ (x : Known). areDone r′ x ≡ true) heard-is still)) in
       (p, heard-is ∙ ap (ackedAs (said .back) changeNumber) is ∙ same, at, still)
 
-  pub armed-left : (resend : Resend) → (isKind (said .kind) query ≡ true → resend ≡ Off) → ArmedAs r b resend → ArmedAs r′ b′ (resendBy said changeNumber r b r′ b′ resend)
-  armed-left Off asks armed = subst (ArmedAs r′ b′) (off-stays said changeNumber r b r′ b′) tt
-  armed-left (Armed T) asks armed = go (isAckOf (said .back) changeNumber b) (areDone r′ b′) refl refl (isKind (said .kind) query) refl
+  -- where the stamp is not given up
+  kept-left : (resend : Resend) → (isKind (said .kind) query ≡ true → resend ≡ Off) → ArmedAs r b resend
+      → ArmedAs r′ b′ (cond (isAckOf (said .back) changeNumber b) Off (cond (leavesDone r b r′ b′) Off resend))
+  kept-left Off asks armed = go (isAckOf (said .back) changeNumber b) (leavesDone r b r′ b′)
+    where
+      go : (x y : Bool) → ArmedAs r′ b′ (cond x Off (cond y Off Off))
+      go true y = tt
+      go false true = tt
+      go false false = tt
+  kept-left (Armed T) asks armed = go (isAckOf (said .back) changeNumber b) (areDone r′ b′) refl refl (isKind (said .kind) query) refl
     where
       armed-off : Armed T ≡ Off → ⊥
       armed-off e = false≢true (ap isOff e)
@@ -92,3 +99,21 @@ module _ (said : Said) (changeNumber : ℕ → Known) (now : Pair) (t : Dts) (r 
       go false y ex ey true ez = absurd (armed-off (asks ez))
       go false true ex ey false ez = subst (λ (d : Bool). ArmedAs r′ b′ (cond (d && false) Off (Armed T))) (sym (armed .3)) (resent T ez armed ex ey)
       go false false ex ey false ez = subst (λ (d : Bool). ArmedAs r′ b′ (cond (d && true) Off (Armed T))) (sym (armed .3)) tt
+
+-- for what had been told
+abbrev pub ArmedIn : Knows → Type 0
+ArmedIn k = ArmedAs (k .r) (k .b) (k .resend)
+
+pub armed-left : (said : Said) (changeNumber : ℕ → Known) (now : Pair) (t : Dts) (k : Knows) → AckOrReport said → (isKind (said .kind) query ≡ true → k .resend ≡ Off)
+    → ArmedIn k → ArmedIn (knowsAfter said t changeNumber now No k)
+armed-left said changeNumber now t k apart asks armed = go (givesUpBy said t (k .resend))
+  where
+    r′ : Known
+    r′ = relayBy said t (k .b) (k .r)
+
+    b′ : Bool → Known
+    b′ z = cond z (returnsTo (k .second) (k .b)) (heardBy said changeNumber now (k .b))
+
+    go : (z : Bool) → ArmedAs r′ (b′ z) (cond z Off (cond (isAckOf (said .back) changeNumber (k .b)) Off (cond (leavesDone (k .r) (k .b) r′ (b′ z)) Off (k .resend))))
+    go true = tt
+    go false = kept-left said changeNumber now t (k .r) (k .b) apart (k .resend) asks armed

@@ -8,6 +8,7 @@ use mathlib.Core.List.{List, [], _∷_, _++_}
 use lib.Dec.{eqb}
 use borrow.Author.Tests.{eq-eqb}
 use Rattle.time.specs.declared.Dts.{Dts}
+use Rattle.time.specs.Fresh.{fresh}
 use Rattle.store.specs.declared.Store.{Store}
 use Rattle.store.specs.declared.Earliest.{Earliest}
 use Rattle.store.specs.declared.Earliest.the-variants.{Stamp, Nothing}
@@ -35,14 +36,14 @@ use Rattle.steps.specs.declared.Event.{Event}
 use Rattle.steps.specs.Named.{resendTimeout, Said, saidBy, isKind}
 use Rattle.acting.specs.Acting.{changedBy, stored, acted}
 use Rattle.acting.specs.laws.ByEvent.{remembers}
-use Rattle.told.specs.Telling.{Knows, areDone, reportedAs, relayBy, ackedAs, heardBy, isAckOf, leavesDone, resendBy, sharesBy, againOf, againBy, lastOf, orSent, orArmed, knowsAfter, knownIn}
+use Rattle.told.specs.Telling.{Knows, areDone, reportedAs, relayBy, ackedAs, heardBy, isStale, givesUpBy, returnsTo, breakerBy, isAckOf, leavesDone, resendBy, sharesBy, againOf, againBy, lastOf, orSent, orArmed, knowsAfter, knownIn}
 use Rattle.told.specs.laws.Exact.{AgainAlone, Suits, told-by}
-use Rattle.told.specs.laws.Armed.{ArmedAs, armed-left}
+use Rattle.told.specs.laws.Armed.{ArmedAs, ArmedIn, armed-left}
 
 -- ---- the combining rule
 
 abbrev sends : Known → Knows → Knows
-sends command k = record { r = k .r; b = orSent command (k .b); number = k .number; resend = orArmed command (k .resend) }
+sends command k = record { r = k .r; b = orSent command (k .b); second = k .second; number = k .number; resend = orArmed command (k .resend) }
 
 module _ (store : Store) (f : ℕ) where
   combined-knows : (rec : Record) → knownIn (Running (combined rec store f .rec)) ≡ sends (combined rec store f .command) (knownIn (Running rec))
@@ -78,35 +79,49 @@ module _ (store : Store) (f : ℕ) where
 
 -- ---- a command that is sent again is b, with the stamp being resent
 
-sent-again : (r b : Known) (resend : Resend) (q : Pair) → ArmedAs r b resend → againOf resend b ≡ Yes q → (b ≡ Yes q) × (resend ≡ Armed (q .stamp))
-sent-again r b Off q armed is = absurd (none-known is)
-sent-again r No (Armed T) q armed is = absurd (none-known is)
-sent-again r (Yes p) (Armed T) q (o, has, at, done) is =
-    let that : p ≡ o = same-known p o has in
-    let this : pair (p .status) T ≡ q = same-known (pair (p .status) T) q is in
-    let stamp : p .stamp ≡ T = ap (λ (x : Pair). x .stamp) that ∙ at in
-    (ap (λ (x : Dts). Yes (pair (p .status) x)) stamp ∙ ap Yes this, ap (λ (x : Pair). Armed (x .stamp)) this)
+sent-again : (t : Dts) (r b : Known) (resend : Resend) (q : Pair) → ArmedAs r b resend → againOf t resend b ≡ Yes q
+    → (b ≡ Yes q) × (resend ≡ Armed (q .stamp)) × (isStale resend t ≡ false)
+sent-again t r b Off q armed is = absurd (none-known is)
+sent-again t r No (Armed T) q armed is = absurd (none-known is)
+sent-again t r (Yes p) (Armed T) q (o, has, at, done) is = go (fresh T t) refl is
+  where
+    go : (x : Bool) → fresh T t ≡ x → cond x (Yes (pair (p .status) T)) No ≡ Yes q → (Yes p ≡ Yes q) × (Armed T ≡ Armed (q .stamp)) × (not (fresh T t) ≡ false)
+    go true e is =
+        let that : p ≡ o = same-known p o has in
+        let this : pair (p .status) T ≡ q = same-known (pair (p .status) T) q is in
+        let stamp : p .stamp ≡ T = ap (λ (x : Pair). x .stamp) that ∙ at in
+        (ap (λ (x : Dts). Yes (pair (p .status) x)) stamp ∙ ap Yes this, ap (λ (x : Pair). Armed (x .stamp)) this, ap not e)
+    go false e is = absurd (none-known is)
 
-module _ (said : Said) (changeNumber : ℕ → Known) (now : Pair) (t : Dts) (r b : Known) (resend : Resend) (q : Pair) (armed : ArmedAs r b resend) where
-  again-same : AgainAlone said → againBy said resend b ≡ Yes q
-      → (heardBy said changeNumber now b ≡ Yes q)
-      × (resendBy said changeNumber r b (relayBy said t b r) (heardBy said changeNumber now b) resend ≡ Armed (q .stamp))
-  again-same (inl other) is = absurd (none-known (sym (ap (λ (x : Bool). cond x (againOf resend b) No) other) ∙ is))
+module _ (said : Said) (changeNumber : ℕ → Known) (now : Pair) (t : Dts) (k : Knows) (q : Pair) (armed : ArmedIn k) where
+  abbrev then : Knows
+  then = knowsAfter said t changeNumber now No k
+
+  again-same : AgainAlone said → againBy said t (k .resend) (k .b) ≡ Yes q → (then .b ≡ Yes q) × (then .resend ≡ Armed (q .stamp))
+  again-same (inl other) is = absurd (none-known (sym (ap (λ (x : Bool). cond x (againOf t (k .resend) (k .b)) No) other) ∙ is))
   again-same (inr (no-report, no-query, no-ack)) is =
-      let sent = sent-again r b resend q armed (of-again (isKind (said .kind) resendTimeout) is) in
-      let same-r : relayBy said t b r ≡ r = ap (λ (x : Bool). cond x (reportedAs (said .status) t b) r) no-report in
-      let same-b : heardBy said changeNumber now b ≡ b =
-      ap (λ (x : Bool). cond x (Yes now) (ackedAs (said .back) changeNumber b)) no-query ∙ ap (λ (o : Option ℕ). ackedAs o changeNumber b) no-ack in (
+      let sent = sent-again t (k .r) (k .b) (k .resend) q armed (of-again (isKind (said .kind) resendTimeout) is) in
+      let same-r : relayBy said t (k .b) (k .r) ≡ k .r = ap (λ (x : Bool). cond x (reportedAs (said .status) t (k .b)) (k .r)) no-report in
+      let holds : givesUpBy said t (k .resend) ≡ false = ap (λ (x : Bool). isKind (said .kind) resendTimeout && x) (sent .2) ∙ and-false (isKind (said .kind) resendTimeout) in
+      let same-b : breakerBy said t changeNumber now k ≡ k .b =
+      ap (λ (x : Bool). cond x (returnsTo (k .second) (k .b)) (heardBy said changeNumber now (k .b))) holds
+      ∙ ap (λ (x : Bool). cond x (Yes now) (ackedAs (said .back) changeNumber (k .b))) no-query
+      ∙ ap (λ (o : Option ℕ). ackedAs o changeNumber (k .b)) no-ack in (
         same-b ∙ sent .0,
-        ap₂ (λ (r′ b′ : Known). resendBy said changeNumber r b r′ b′ resend) same-r same-b
-            ∙ ap (λ (o : Option ℕ). cond (isAckOf o changeNumber b) Off (cond (leavesDone r b r b) Off resend)) no-ack
-            ∙ ap (λ (x : Bool). cond x Off resend) (and-not-self (areDone r b))
+        ap₂ (λ (r′ b′ : Known). resendBy said t changeNumber (k .r) (k .b) r′ b′ (k .resend)) same-r same-b
+            ∙ ap (λ (x : Bool). cond x Off (cond (isAckOf (said .back) changeNumber (k .b)) Off (cond (leavesDone (k .r) (k .b) (k .r) (k .b)) Off (k .resend)))) holds
+            ∙ ap (λ (o : Option ℕ). cond (isAckOf o changeNumber (k .b)) Off (cond (leavesDone (k .r) (k .b) (k .r) (k .b)) Off (k .resend))) no-ack
+            ∙ ap (λ (x : Bool). cond x Off (k .resend)) (and-not-self (areDone (k .r) (k .b)))
             ∙ sent .1,
       )
     where
-      of-again : (x : Bool) → cond x (againOf resend b) No ≡ Yes q → againOf resend b ≡ Yes q
+      of-again : (x : Bool) → cond x (againOf t (k .resend) (k .b)) No ≡ Yes q → againOf t (k .resend) (k .b) ≡ Yes q
       of-again true e = e
       of-again false e = absurd (none-known e)
+
+      and-false : (x : Bool) → (x && false) ≡ false
+      and-false true = refl
+      and-false false = refl
 
 -- a node that starts up resends nothing
 starting-off : (p : Phase) → phaseStarting p ≡ true → knownIn p .resend ≡ Off
@@ -119,7 +134,7 @@ starting-off (Running rec) e = absurd (false≢true e)
 module _
     (breaker : Breaker) (node : Node) (i f : ℕ) (t : Dts) (event : Event)
     (up : not (phaseDown (node .phase)) ≡ true) (suits : Suits (node .phase) (saidBy event .kind)) (known : remembers breaker event ≡ true)
-    (armed : ArmedAs (knownR (node .phase)) (knownB (node .phase)) (knownIn (node .phase) .resend))
+    (armed : ArmedIn (knownIn (node .phase)))
   where
     abbrev p : Phase
     p = node .phase
@@ -138,15 +153,15 @@ module _
     after sent = knowsAfter (saidBy event) t (changeAt breaker) (breaker .pair) sent (knownIn p)
 
     abbrev again : Known
-    again = againBy (saidBy event) (knownIn p .resend) (knownB p)
+    again = againBy (saidBy event) t (knownIn p .resend) (knownB p)
 
     sent-last : (x c : Known) → again ≡ x → sends c (after No) ≡ after (lastOf (listed (followed x c)))
     sent-last (Yes q) (Yes c) is = refl
     sent-last No (Yes c) is = refl
     sent-last No No is = refl
     sent-last (Yes q) No is =
-        let same = again-same (saidBy event) (changeAt breaker) (breaker .pair) t (knownR p) (knownB p) (knownIn p .resend) q armed (told-by breaker t event p .alone) is in
-        ap₂ (λ (b : Known) (resend : Resend). record { r = after No .r; b = b; number = after No .number; resend = resend }) (same .0) (same .1)
+        let same = again-same (saidBy event) (changeAt breaker) (breaker .pair) t (knownIn p) q armed (told-by breaker t event p .alone) is in
+        ap₂ (λ (b : Known) (resend : Resend). record { r = after No .r; b = b; second = after No .second; number = after No .number; resend = resend }) (same .0) (same .1)
 
     pub event-known : knownIn (acted breaker node i f t event .node .phase) ≡ after (lastOf (listed (acted breaker node i f t event .commands)))
     unfolding acted finished
@@ -156,15 +171,15 @@ module _
         ∙ sent-last again rule refl
         ∙ ap (λ (x : Known). after (lastOf (listed (followed x rule)))) (sym (told-by breaker t event p .command))
 
-    pub event-armed : ArmedAs (knownR (acted breaker node i f t event .node .phase)) (knownB (acted breaker node i f t event .node .phase)) (knownIn (acted breaker node i f t event .node .phase) .resend)
+    pub event-armed : ArmedIn (knownIn (acted breaker node i f t event .node .phase))
     unfolding acted finished
     event-armed =
-        subst (λ (k : Knows). ArmedAs (k .r) (k .b) (k .resend)) (sym (ended-known own f (left .phase) ∙ ap (sends rule) (told-by breaker t event p .knows up suits known)))
+        subst ArmedIn (sym (ended-known own f (left .phase) ∙ ap (sends rule) (told-by breaker t event p .knows up suits known)))
         (go rule (λ c is. subst (λ (k : Knows). areDone (k .r) (Yes c) ≡ true) (told-by breaker t event p .knows up suits known) (ended-done own f (left .phase) c is)))
       where
-        go : (c : Known) → ((d : Pair) → c ≡ Yes d → areDone (after No .r) (Yes d) ≡ true) → ArmedAs (sends c (after No) .r) (sends c (after No) .b) (sends c (after No) .resend)
+        go : (c : Known) → ((d : Pair) → c ≡ Yes d → areDone (after No .r) (Yes d) ≡ true) → ArmedIn (sends c (after No))
         go (Yes d) done = (d, refl, refl, done d refl)
-        go No done = armed-left (saidBy event) (changeAt breaker) (breaker .pair) t (knownR p) (knownB p) (told-by breaker t event p .apart) (knownIn p .resend) (λ e. starting-off p (suits .starts e)) armed
+        go No done = armed-left (saidBy event) (changeAt breaker) (breaker .pair) t (knownIn p) (told-by breaker t event p .apart) (λ e. starting-off p (suits .starts e)) armed
 
     pub event-shares : RunsOnceKnown p
         → acted breaker node i f t event .shares ≡ sharesBy (saidBy event) t (knownR p) (knownB p) (relayBy (saidBy event) t (knownB p) (knownR p))

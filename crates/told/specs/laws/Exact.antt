@@ -7,6 +7,7 @@ use mathlib.Core.Option.{none}
 use mathlib.Core.Logic.{_⊎_, inl, inr}
 use lib.Dec.{eqb, leb}
 use Rattle.time.specs.declared.Dts.{Dts}
+use Rattle.time.specs.Fresh.{fresh}
 use Rattle.time.specs.Larger.{larger}
 use Rattle.pairs.specs.declared.Pair.{Pair}
 use Rattle.pairs.specs.declared.Known.{Known}
@@ -26,8 +27,8 @@ use Rattle.node.specs.declared.Phase.the-variants.{Down, Starting, Running}
 use Rattle.node.specs.declared.Changed.{Changed}
 use Rattle.node.specs.Asked.{phaseDown, phaseStarting, phaseRunning, knownR, knownB}
 use Rattle.node.specs.laws.PhaseLaws.{RunsOnceKnown}
-use Rattle.events.specs.Events.{begun, again, reportStamp, kept, reportShares, reportRunning, reportStarting, reported, shareTimedOut, resendTimedOut, laterThan, ackResend, ackRunning, ackStarting, acked, queried}
-use Rattle.events.specs.laws.EventLaws.{share-phase, share-shares, resend-phase, resend-shares, query-shares}
+use Rattle.events.specs.Events.{begun, reportStamp, kept, reportShares, reportRunning, reportStarting, reported, shareTimedOut, returned, givenUp, resendTimedOut, laterThan, ackResend, ackRunning, ackStarting, acked, queried}
+use Rattle.events.specs.laws.EventLaws.{share-phase, share-shares, stale, resent, resend-shares, query-shares}
 use Rattle.breaker.specs.declared.Breaker.{Breaker}
 use Rattle.breaker.specs.Breaker.{changeAt}
 use Rattle.steps.specs.declared.Event.{Event}
@@ -35,32 +36,32 @@ use Rattle.steps.specs.declared.Event.the-variants.{Report, Deliver, ShareTimeo
 use Rattle.steps.specs.Named.{StepKind, report, shareTimeout, resendTimeout, ack, query, down, Said, saidBy, isKind, among}
 use Rattle.acting.specs.Acting.{ackedBy, changedBy}
 use Rattle.acting.specs.laws.ByEvent.{remembers}
-use Rattle.told.specs.Telling.{Knows, areDone, areAttempt, areKnown, relayBy, heardBy, laterOf, isAckOf, leavesDone, resendBy, sharesBy, againOf, againBy, knowsAfter, knownIn}
+use Rattle.told.specs.Telling.{Knows, areDone, areAttempt, areKnown, relayBy, laterOf, isStale, givesUpBy, returnsTo, isAckOf, leavesDone, resendBy, sharesBy, againOf, againBy, knowsAfter, knownIn}
 
 -- ---- start-up: what was learned stays known, and nothing is resent
 
-begun-knows : (r b : Known) (number : Last) → knownIn (begun (record { r = r; b = b; number = number }) .phase) ≡ record { r = r; b = b; number = number; resend = Off }
+begun-knows : (r b second : Known) (number : Last)
+    → knownIn (begun (record { r = r; b = b; second = second; number = number }) .phase) ≡ record { r = r; b = b; second = second; number = number; resend = Off }
 unfolding begun
-begun-knows (Yes r) (Yes b) number = refl
-begun-knows (Yes r) No number = refl
-begun-knows No b number = refl
+begun-knows (Yes r) (Yes b) second number = refl
+begun-knows (Yes r) No second number = refl
+begun-knows No b second number = refl
 
-pub off-stays : (said : Said) (changeNumber : ℕ → Known) (r b r′ b′ : Known) → Off ≡ resendBy said changeNumber r b r′ b′ Off
-off-stays said changeNumber r b r′ b′ = go (isAckOf (said .back) changeNumber b) (leavesDone r b r′ b′)
+pub off-stays : (said : Said) (t : Dts) (changeNumber : ℕ → Known) (r b r′ b′ : Known) → Off ≡ resendBy said t changeNumber r b r′ b′ Off
+off-stays said t changeNumber r b r′ b′ = go (givesUpBy said t Off) (isAckOf (said .back) changeNumber b) (leavesDone r b r′ b′)
   where
-    go : (x y : Bool) → Off ≡ cond x Off (cond y Off Off)
-    go true y = refl
-    go false true = refl
-    go false false = refl
-
-again-same : (resend : Resend) (b : Pair) → again resend b ≡ againOf resend (Yes b)
-again-same (Armed T) b = refl
-again-same Off b = refl
+    go : (z x y : Bool) → Off ≡ cond z Off (cond x Off (cond y Off Off))
+    go true x y = refl
+    go false true y = refl
+    go false false true = refl
+    go false false false = refl
 
 -- ---- where nothing is said of a field it stays
 
-same-knows : (k : Knows) → record { r = k .r; b = k .b; number = k .number; resend = cond (areDone (k .r) (k .b) && not (areDone (k .r) (k .b))) Off (k .resend) } ≡ k
-same-knows k = ap (λ (x : Bool). record { r = k .r; b = k .b; number = k .number; resend = cond x Off (k .resend) }) (and-not-self (areDone (k .r) (k .b)))
+same-knows : (k : Knows)
+    → record { r = k .r; b = k .b; second = k .second; number = k .number; resend = cond (areDone (k .r) (k .b) && not (areDone (k .r) (k .b))) Off (k .resend) } ≡ k
+same-knows k =
+    ap (λ (x : Bool). record { r = k .r; b = k .b; second = k .second; number = k .number; resend = cond x Off (k .resend) }) (and-not-self (areDone (k .r) (k .b)))
 
 -- ---- what each event leaves, before the combining rule
 
@@ -85,16 +86,16 @@ module _ (breaker : Breaker) (t : Dts) where
 
   report-starting : (A number : ℕ) (l : Learned) → knownIn (reportStarting l (pair A (reportStamp (l .b) t)) number .phase) ≡ told (Report A number) (Starting l)
   unfolding reportStarting
-  report-starting A number l = begun-knows (Yes (pair A (reportStamp (l .b) t))) (l .b) (Number number) ∙ go (l .b)
+  report-starting A number l = begun-knows (Yes (pair A (reportStamp (l .b) t))) (l .b) (l .second) (Number number) ∙ go (l .b)
     where
-      go : (b : Known) → record { r = Yes (pair A (reportStamp b t)); b = b; number = Number number; resend = Off }
-          ≡ told (Report A number) (Starting (record { r = l .r; b = b; number = l .number }))
+      go : (b : Known) → record { r = Yes (pair A (reportStamp b t)); b = b; second = l .second; number = Number number; resend = Off }
+          ≡ told (Report A number) (Starting (record { r = l .r; b = b; second = l .second; number = l .number }))
       go (Yes b) =
-          ap (λ (x : Resend). record { r = Yes (pair A (larger t (b .stamp))); b = Yes b; number = Number number; resend = x })
-          (off-stays (saidBy (Report A number)) (changeAt breaker) (l .r) (Yes b) (Yes (pair A (larger t (b .stamp)))) (Yes b))
+          ap (λ (x : Resend). record { r = Yes (pair A (larger t (b .stamp))); b = Yes b; second = l .second; number = Number number; resend = x })
+          (off-stays (saidBy (Report A number)) t (changeAt breaker) (l .r) (Yes b) (Yes (pair A (larger t (b .stamp)))) (Yes b))
       go No =
-          ap (λ (x : Resend). record { r = Yes (pair A t); b = No; number = Number number; resend = x })
-          (off-stays (saidBy (Report A number)) (changeAt breaker) (l .r) No (Yes (pair A t)) No)
+          ap (λ (x : Resend). record { r = Yes (pair A t); b = No; second = l .second; number = Number number; resend = x })
+          (off-stays (saidBy (Report A number)) t (changeAt breaker) (l .r) No (Yes (pair A t)) No)
 
   report-knows : (A number : ℕ) (p : Phase) → not (phaseDown p) ≡ true → knownIn (reported p t A number .phase) ≡ told (Report A number) p
   unfolding reported reportRunning kept
@@ -107,32 +108,75 @@ module _ (breaker : Breaker) (t : Dts) where
     abbrev acks : Phase → Knows
     acks p = knowsAfter (saidBy (Ack back)) t (λ k. Yes change) (breaker .pair) No (knownIn p)
 
+    later-one : (k : Known) → Yes (laterThan k change) ≡ laterOf k (Yes change)
+    later-one (Yes b) = refl
+    later-one No = refl
+
     ack-starting : (l : Learned) → knownIn (ackStarting l change .phase) ≡ acks (Starting l)
     unfolding ackStarting
-    ack-starting l = begun-knows (l .r) _ (l .number) ∙ go (l .b)
-      where
-        go : (b : Known) → record { r = l .r; b = Yes (laterThan b change); number = l .number; resend = Off } ≡ acks (Starting (record { r = l .r; b = b; number = l .number }))
-        go (Yes b) =
-            ap (λ (x : Resend). record { r = l .r; b = Yes (laterThan (Yes b) change); number = l .number; resend = x })
-            (off-stays (saidBy (Ack back)) (λ k. Yes change) (l .r) (Yes b) (l .r) (Yes (laterThan (Yes b) change)))
-        go No =
-            ap (λ (x : Resend). record { r = l .r; b = Yes change; number = l .number; resend = x })
-            (off-stays (saidBy (Ack back)) (λ k. Yes change) (l .r) No (l .r) (Yes change))
+    ack-starting l =
+        begun-knows (l .r) _ _ (l .number)
+        ∙ ap₂ (λ (b second : Known). record { r = l .r; b = b; second = second; number = l .number; resend = Off }) (later-one (l .b)) (later-one (l .second))
+        ∙ ap (λ (x : Resend). record { r = l .r; b = laterOf (l .b) (Yes change); second = laterOf (l .second) (Yes change); number = l .number; resend = x })
+        (off-stays (saidBy (Ack back)) t (λ k. Yes change) (l .r) (l .b) (l .r) (laterOf (l .b) (Yes change)))
 
     ack-knows : (p : Phase) → not (phaseDown p) ≡ true → knownIn (acked p change .phase) ≡ acks p
     unfolding acked ackRunning ackResend kept
     ack-knows Down up = absurd (false≢true up)
     ack-knows (Starting l) up = ack-starting l
-    ack-knows (Running rec) up = refl
+    ack-knows (Running rec) up =
+        ap (λ (second : Known). record { r = Yes (rec .r); b = acks (Running rec) .b; second = second; number = rec .number; resend = acks (Running rec) .resend })
+        (later-one (rec .second))
 
   query-knows : (p : Phase) → phaseStarting p ≡ true → knownIn (queried p (breaker .pair) .phase) ≡ told Query p
   unfolding queried
   query-knows Down up = absurd (false≢true up)
   query-knows (Starting l) up =
-      begun-knows (l .r) _ (l .number)
-      ∙ ap (λ (x : Resend). record { r = l .r; b = Yes (breaker .pair); number = l .number; resend = x })
-      (off-stays (saidBy Query) (changeAt breaker) (l .r) (l .b) (l .r) (Yes (breaker .pair)))
+      begun-knows (l .r) _ _ (l .number)
+      ∙ ap (λ (x : Resend). record { r = l .r; b = Yes (breaker .pair); second = Yes (breaker .pair); number = l .number; resend = x })
+      (off-stays (saidBy Query) t (changeAt breaker) (l .r) (l .b) (l .r) (Yes (breaker .pair)))
   query-knows (Running rec) up = absurd (false≢true up)
+
+  -- a resend timeout, while the stamp is fresh or where none is resent, and with one that is no longer fresh
+  resend-stays : (k : Knows) → isStale (k .resend) t ≡ false → k ≡ knowsAfter (saidBy ResendTimeout) t (changeAt breaker) (breaker .pair) No k
+  resend-stays k e =
+      sym (same-knows k)
+      ∙ ap
+      (λ (x : Bool).
+      let b = cond x (returnsTo (k .second) (k .b)) (k .b) in
+      record { r = k .r; b = b; second = k .second; number = k .number; resend = cond x Off (cond (areDone (k .r) (k .b) && not (areDone (k .r) b)) Off (k .resend)) })
+      (sym e)
+
+  resend-returns : (k : Knows) → isStale (k .resend) t ≡ true
+      → record { r = k .r; b = returnsTo (k .second) (k .b); second = k .second; number = k .number; resend = Off }
+      ≡ knowsAfter (saidBy ResendTimeout) t (changeAt breaker) (breaker .pair) No k
+  resend-returns k e =
+      ap
+      (λ (x : Bool).
+      let b = cond x (returnsTo (k .second) (k .b)) (k .b) in
+      record { r = k .r; b = b; second = k .second; number = k .number; resend = cond x Off (cond (areDone (k .r) (k .b) && not (areDone (k .r) b)) Off (k .resend)) })
+      (sym e)
+
+  resend-knows : (p : Phase) → knownIn (resendTimedOut p t .phase) ≡ told ResendTimeout p
+  unfolding resendTimedOut givenUp
+  resend-knows Down = resend-stays (knownIn Down) refl
+  resend-knows (Starting l) = resend-stays (knownIn (Starting l)) refl
+  resend-knows (Running rec) =
+      resent t (λ x left. knownIn (left .phase) ≡ told ResendTimeout (Running x)) rec
+      (λ T e is. resend-stays (knownIn (Running rec)) (ap (λ (x : Resend). isStale x t) e ∙ ap not is))
+      (λ up. back (rec .second) ∙ resend-returns (knownIn (Running rec)) (same-stale (rec .resend) ∙ up))
+      (λ e. resend-stays (knownIn (Running rec)) (ap (λ (x : Resend). isStale x t) e))
+    where
+      same-stale : (x : Resend) → isStale x t ≡ stale t x
+      same-stale (Armed T) = refl
+      same-stale Off = refl
+
+      with-b : Known → Knows
+      with-b b = record { r = Yes (rec .r); b = b; second = rec .second; number = rec .number; resend = Off }
+
+      back : (k : Known) → with-b (Yes (returned k (rec .b))) ≡ with-b (returnsTo k (Yes (rec .b)))
+      back (Yes second) = refl
+      back No = refl
 
   -- ---- what each event shares
 
@@ -180,11 +224,23 @@ module _ (breaker : Breaker) (t : Dts) where
   query-silent (Starting l) = refl
   query-silent (Running rec) = refl
 
-  sent-again : (p : Phase) → resendTimedOut p .command ≡ againBy (saidBy ResendTimeout) (knownIn p .resend) (knownB p)
-  unfolding resendTimedOut
+  sent-again : (p : Phase) → resendTimedOut p t .command ≡ againBy (saidBy ResendTimeout) t (knownIn p .resend) (knownB p)
+  unfolding resendTimedOut givenUp
   sent-again Down = refl
   sent-again (Starting l) = refl
-  sent-again (Running rec) = again-same (rec .resend) (rec .b)
+  sent-again (Running rec) =
+      resent t (λ x left. left .command ≡ againOf t (x .resend) (Yes (x .b))) rec
+      (λ T e is. sym (ap (λ (x : Resend). againOf t x (Yes (rec .b))) e ∙ ap (λ (y : Bool). cond y (Yes (pair (rec .b .status) T)) No) is))
+      (λ up. silent (rec .resend) up)
+      (λ e. sym (ap (λ (x : Resend). againOf t x (Yes (rec .b))) e))
+    where
+      silent : (x : Resend) → stale t x ≡ true → No ≡ againOf t x (Yes (rec .b))
+      silent (Armed T) up = go (fresh T t) up
+        where
+          go : (y : Bool) → not y ≡ true → No ≡ cond y (Yes (pair (rec .b .status) T)) No
+          go true e = absurd (false≢true e)
+          go false e = refl
+      silent Off up = refl
 
   -- ---- every event
 
@@ -195,7 +251,7 @@ module _ (breaker : Breaker) (t : Dts) where
     -- what it shares, and the command that it sends again;
     pub shares : not (phaseDown p) ≡ true → Suits p (saidBy event .kind) → RunsOnceKnown p
         → changedBy breaker p t event .shares ≡ sharesBy (saidBy event) t (knownR p) (knownB p) (relayBy (saidBy event) t (knownB p) (knownR p))
-    pub command : changedBy breaker p t event .command ≡ againBy (saidBy event) (knownIn p .resend) (knownB p)
+    pub command : changedBy breaker p t event .command ≡ againBy (saidBy event) t (knownIn p .resend) (knownB p)
     -- no event is told of a report and of an ack, and one that sends a command again says nothing else
     pub apart : AckOrReport (saidBy event)
     pub alone : AgainAlone (saidBy event)
@@ -233,8 +289,8 @@ module _ (breaker : Breaker) (t : Dts) where
       }
   told-by ResendTimeout p =
       record {
-        knows = λ up suits known. ap knownIn (resend-phase p) ∙ sym (same-knows (knownIn p));
-        shares = λ up suits once. resend-shares p;
+        knows = λ up suits known. resend-knows p;
+        shares = λ up suits once. resend-shares t p;
         command = sent-again p;
         apart = inl refl;
         alone = inr (refl, refl, refl);
