@@ -270,6 +270,36 @@ impl Site {
         0
     }
 
+    /// The shares at a stamp and the next in one delivery: those that are fresh come in before the node looks at what
+    /// it holds.
+    fn pair(&mut self, sender: u8, at: u8, t: u32, status: u8, stamp: u32, out: &mut Outbox) -> u8 {
+        let fine = sender < self.n && status <= 1 && stamp != u32::MAX;
+        let refusal = self.admit_at(at, fine, 1 << RUNNING, t);
+        if refusal != 0 {
+            return refusal;
+        }
+        let stamps = [stamp, stamp + 1];
+        let is_fresh = stamps.map(|stamp| fresh(stamp, t));
+        if is_fresh == [false, false] {
+            return 7;
+        }
+        let (action, bit) = (usize::from(status), 1 << sender);
+        for (stamp, is_fresh) in stamps.into_iter().zip(is_fresh) {
+            if is_fresh && (self.compromised | self.made[action][place(stamp)]) & bit == 0 {
+                return 8;
+            }
+        }
+        let node = &mut self.nodes[usize::from(at)];
+        node.advance(t);
+        for (stamp, is_fresh) in stamps.into_iter().zip(is_fresh) {
+            if is_fresh {
+                node.store[action][place(stamp)] |= bit;
+            }
+        }
+        node.combine(self.threshold, out);
+        0
+    }
+
     fn timeout(&mut self, at: u8, t: u32, shares: bool, out: &mut Outbox) -> u8 {
         let refusal = self.admit_at(at, true, 1 << RUNNING, t);
         if refusal != 0 {
@@ -418,7 +448,8 @@ impl Site {
             8 => self.ack(x[3], four(4), x[8], out),
             9 => self.query(x[3], four(4)),
             10 => self.down(x[3]),
-            _ => self.up(x[3]),
+            11 => self.up(x[3]),
+            _ => self.pair(x[3], x[4], four(5), x[9], four(10), out),
         }
     }
 }

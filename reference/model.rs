@@ -41,13 +41,14 @@ pub struct Pair {
     pub stamp: u64,
 }
 
-/// A step as it stands in a log: any values at all.
+/// A step as it stands in a log: any values at all. A Pair is one delivery, "standing for T and T+1" (request 6).
 #[derive(Clone, Copy, PartialEq, Eq, Debug)]
 pub enum Step {
     Start { f: u8, k: u8, set: u16, status: u8, g: u32 },
     Tick,
     Report { node: u8, t: u32, status: u8, number: u32 },
     Deliver { sender: u8, receiver: u8, t: u32, status: u8, stamp: u32 },
+    Pair { sender: u8, receiver: u8, t: u32, status: u8, stamp: u32 },
     ShareTimeout { node: u8, t: u32 },
     ResendTimeout { node: u8, t: u32 },
     Command { t: u32, status: u8, stamp: u32 },
@@ -218,6 +219,7 @@ impl Model {
             }
             Step::Report { node, t, .. }
             | Step::Deliver { receiver: node, t, .. }
+            | Step::Pair { receiver: node, t, .. }
             | Step::ShareTimeout { node, t }
             | Step::ResendTimeout { node, t }
             | Step::Ack { node, t, .. }
@@ -296,7 +298,7 @@ impl Site {
         }
     }
 
-    /// Report, Deliver, a timeout or Ack at a running node.
+    /// Report, Deliver, Pair, a timeout or Ack at a running node.
     fn run(&self, mut node: Running, me: u8, t: u64, step: &Step) -> (Running, Vec<Sent>) {
         let before = node.state();
         let mut sent = Vec::new();
@@ -311,8 +313,12 @@ impl Site {
                     sent.push(Sent::Share(me, Pair { status: node.r.status, stamp: t + 1 }));
                 }
             }
-            Step::Deliver { sender, status, stamp, .. } => {
-                node.hold(sender, Pair { status: Status::of(status).unwrap(), stamp: u64::from(stamp) });
+            // "The fresh ones of the two are stored together, all else as Deliver" (request 6): what they make
+            // possible is looked at once, at the end of the step.
+            Step::Deliver { sender, .. } | Step::Pair { sender, .. } => {
+                for share in step.fresh_ones() {
+                    node.hold(sender, share);
+                }
             }
             Step::ShareTimeout { .. } => sent.push(Sent::Share(me, Pair { status: node.r.status, stamp: t })),
             Step::ResendTimeout { .. } => {

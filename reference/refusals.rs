@@ -29,7 +29,7 @@ impl Step {
     /// Every node that the step names.
     fn names(&self) -> Vec<u8> {
         match *self {
-            Step::Deliver { sender, receiver, .. } => vec![sender, receiver],
+            Step::Deliver { sender, receiver, .. } | Step::Pair { sender, receiver, .. } => vec![sender, receiver],
             _ => self.acting().into_iter().collect(),
         }
     }
@@ -40,6 +40,7 @@ impl Step {
             Step::Start { .. } | Step::Tick | Step::Command { .. } => None,
             Step::Report { node, .. }
             | Step::Deliver { receiver: node, .. }
+            | Step::Pair { receiver: node, .. }
             | Step::ShareTimeout { node, .. }
             | Step::ResendTimeout { node, .. }
             | Step::Ack { node, .. }
@@ -55,6 +56,7 @@ impl Step {
             Step::Start { .. } | Step::Tick | Step::Down { .. } | Step::Up { .. } => None,
             Step::Report { t, .. }
             | Step::Deliver { t, .. }
+            | Step::Pair { t, .. }
             | Step::ShareTimeout { t, .. }
             | Step::ResendTimeout { t, .. }
             | Step::Command { t, .. }
@@ -65,19 +67,27 @@ impl Step {
 
     fn status(&self) -> Option<u8> {
         match *self {
-            Step::Report { status, .. } | Step::Deliver { status, .. } | Step::Command { status, .. } => Some(status),
+            Step::Report { status, .. }
+            | Step::Deliver { status, .. }
+            | Step::Pair { status, .. }
+            | Step::Command { status, .. } => Some(status),
             _ => None,
         }
     }
 
-    /// The action and stamp T of a delivery or a command.
-    fn signed(&self) -> Option<Pair> {
+    /// The stamps that a delivery or a command speaks of.
+    fn stamps(&self) -> Vec<u64> {
         match *self {
-            Step::Deliver { status, stamp, .. } | Step::Command { status, stamp, .. } => {
-                Status::of(status).map(|status| Pair { status, stamp: u64::from(stamp) })
-            }
-            _ => None,
+            Step::Deliver { stamp, .. } | Step::Command { stamp, .. } => vec![u64::from(stamp)],
+            Step::Pair { stamp, .. } => vec![u64::from(stamp), u64::from(stamp) + 1],
+            _ => Vec::new(),
         }
+    }
+
+    /// The action of a delivery or a command at those of its stamps that are fresh.
+    pub fn fresh_ones(&self) -> Vec<Pair> {
+        let Some((status, t)) = self.status().and_then(Status::of).zip(self.clock()) else { return Vec::new() };
+        self.stamps().into_iter().filter(|&stamp| fresh(stamp, t)).map(|stamp| Pair { status, stamp }).collect()
     }
 }
 
@@ -108,6 +118,11 @@ impl Site {
         self.made.get(&share).cloned().unwrap_or_default()
     }
 
+    /// Whether a share can be delivered: a correct sender has made it; a compromised one may send any.
+    pub fn has_made(&self, sender: u8, share: Pair) -> bool {
+        self.compromised.contains(&sender) || self.makers(share).contains(&sender)
+    }
+
     /// The signature verdict on a command.
     pub fn verdict(&self, command: Pair) -> bool {
         self.compromised.union(&self.makers(command)).count() >= usize::from(self.f) + 1
@@ -119,19 +134,21 @@ impl Site {
         match row {
             2 => {
                 let back = matches!(step, Step::Ack { back, .. } if *back > 7);
-                step.names().iter().any(|&node| node >= self.n) || step.status().is_some_and(|s| s > 1) || back
+                let no_next = matches!(step, Step::Pair { stamp: u32::MAX, .. });
+                let status = step.status().is_some_and(|s| s > 1);
+                step.names().iter().any(|&node| node >= self.n) || status || back || no_next
             }
             3 => step.acting().is_some_and(|node| self.compromised.contains(&node)),
             4 => step.acting().is_some_and(|node| !self.takes(&self.nodes[&node], step)),
             5 => step.clock().is_some_and(|t| t != self.g && t != self.g + 1),
             6 => step.clock().is_some_and(|t| self.last_clock(step).is_some_and(|last| t < last)),
-            7 => step.signed().is_some_and(|signed| !fresh(signed.stamp, step.clock().unwrap())),
+            // Of a pair: 7 when neither is fresh, 8 when a fresh one was not made (request 6).
+            7 => !step.stamps().is_empty() && step.fresh_ones().is_empty(),
             8 => match *step {
-                Step::Deliver { sender, .. } => {
-                    let share = step.signed().unwrap();
-                    !self.compromised.contains(&sender) && !self.makers(share).contains(&sender)
+                Step::Deliver { sender, .. } | Step::Pair { sender, .. } => {
+                    step.fresh_ones().into_iter().any(|share| !self.has_made(sender, share))
                 }
-                Step::Command { .. } => !self.verdict(step.signed().unwrap()),
+                Step::Command { .. } => step.fresh_ones().into_iter().any(|command| !self.verdict(command)),
                 _ => false,
             },
             9 => match *step {
@@ -144,8 +161,8 @@ impl Site {
             },
             // Row 10 is no step's, and row 11 speaks of commands that would change the status (request 4).
             11 => {
-                let command = matches!(step, Step::Command { .. }).then(|| step.signed().unwrap());
-                command.is_some_and(|it| it.status != self.breaker.status && it.stamp <= self.breaker.stamp)
+                let too_old = |it: &Pair| it.status != self.breaker.status && it.stamp <= self.breaker.stamp;
+                matches!(step, Step::Command { .. }) && step.fresh_ones().iter().any(too_old)
             }
             12 => match (step, step.acting().map(|node| &self.nodes[&node])) {
                 (Step::ShareTimeout { .. }, Some(Record::Running(node))) => !matches!(node.state(), State::Attempt(_)),

@@ -1,7 +1,7 @@
 //! The five operating conditions of the paper's performance table, with four nodes (f = 1, k = 1), as logs
 //! of any number of trip and close actions. Every action is carried out: relays report, each node that is up
 //! sends both of its shares to every other, each sends the command, the first changes the breaker and the others
-//! are answered, all get the ack.
+//! are answered, all get the ack. In a log of version 2 the two shares are delivered as one pair.
 
 use reference::log;
 use reference::model::{Status, Step};
@@ -34,6 +34,7 @@ const CLOCK: u32 = 100;
 
 pub struct Bench {
     condition: Condition,
+    version: u8,
     clock: u32,
     action: Status,
     actions: u64,
@@ -42,10 +43,10 @@ pub struct Bench {
 
 impl Bench {
     /// Writes the version byte and all up to the first action: a start, every node running, those down that are.
-    pub fn begin(condition: Condition, out: &mut Vec<u8>) -> Bench {
-        let mut bench = Bench { condition, clock: CLOCK, action: Status::Close, actions: 0, numbers: [0; 4] };
+    pub fn begin(condition: Condition, version: u8, out: &mut Vec<u8>) -> Bench {
+        let mut bench = Bench { condition, version, clock: CLOCK, action: Status::Close, actions: 0, numbers: [0; 4] };
         let set = if bench.is_faulty(FAULTY) { 1 << FAULTY } else { 0 };
-        out.push(log::VERSION);
+        out.push(version);
         log::write(&Step::Start { f: 1, k: 1, set, status: 0, g: CLOCK }, out);
         for node in 0..NODES {
             if !bench.is_faulty(node) {
@@ -88,10 +89,19 @@ impl Bench {
         log::write(&Step::Deliver { sender, receiver, t: self.clock, status: action.byte(), stamp }, out);
     }
 
+    /// The shares at this stamp and the next.
+    fn deliver_both(&self, sender: u8, receiver: u8, action: Status, stamp: u32, out: &mut Vec<u8>) {
+        if self.version == 1 {
+            self.deliver(sender, receiver, action, stamp, out);
+            self.deliver(sender, receiver, action, stamp + 1, out);
+        } else {
+            log::write(&Step::Pair { sender, receiver, t: self.clock, status: action.byte(), stamp }, out);
+        }
+    }
+
     fn attack(&self, receiver: u8, out: &mut Vec<u8>) {
         let t = self.clock;
-        self.deliver(FAULTY, receiver, self.action.other(), t, out);
-        self.deliver(FAULTY, receiver, self.action.other(), t + 1, out);
+        self.deliver_both(FAULTY, receiver, self.action.other(), t, out);
         for _ in 0..10 {
             self.deliver(FAULTY, receiver, self.action, t + 2, out);
         }
@@ -122,8 +132,7 @@ impl Bench {
         }
         for &receiver in &up {
             for &sender in up.iter().filter(|&&sender| sender != receiver) {
-                self.deliver(sender, receiver, self.action, self.clock, out);
-                self.deliver(sender, receiver, self.action, self.clock + 1, out);
+                self.deliver_both(sender, receiver, self.action, self.clock, out);
             }
         }
         for _ in &up {

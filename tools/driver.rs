@@ -1,23 +1,34 @@
 //! Holds a program against the reference: `driver COMMAND LOGS RUN..`
 //!
-//! Every named run, a short log of each condition, logs cut at every one of their bytes, long logs that come in
-//! pieces of odd sizes, and LOGS random logs, the seeds 1 to LOGS. Of the named runs every difference is listed
-//! before it ends with 1; of the other logs the first ends it.
+//! Every named run, a short log of each condition in each version, logs cut at every one of their bytes, long logs
+//! that come in pieces of odd sizes, and LOGS random logs, the seeds 1 to LOGS. Of the named runs every difference is
+//! listed before it ends with 1; of the other logs the first ends it.
 
 mod tally;
 
 use reference::{log, replay::replay};
+use std::iter::{from_fn, Peekable};
 use std::process::exit;
 use std::sync::Mutex;
 use std::time::Duration;
 use tally::Tally;
 use tools::conditions::{Bench, Condition, ALL};
-use tools::generator::{random_log, Walk, USUAL};
 use tools::notation::parse;
 use tools::programs::{each, first_difference, named_runs, output_in_pieces};
+use tools::random_logs::{random_log, version_of, walk_log, USUAL};
 
 /// Random logs that are run one behind the other in one process: at most so many.
 const BATCH: usize = 25;
+
+/// A log of version 2 in which node 0 gets a share, a pair of which one is fresh, and a pair that it commands with.
+const PAIRS: &str = "version 2
+    Start(1, 0, {2}, CLOSE, 100)
+    Query(0, 100)
+    Report(0, 100, CLOSE, 1)
+    Report(0, 100, TRIP, 2)
+    Deliver(2, 0, 100, TRIP, 99)
+    Pair(2, 0, 100, TRIP, 102)
+    Pair(2, 0, 100, TRIP, 100)";
 
 fn main() {
     let words: Vec<String> = std::env::args().skip(1).collect();
@@ -55,20 +66,23 @@ fn compare(program: &str, name: &str, bytes: &[u8], piece: usize) -> Result<Stri
     Err(format!("{name}: {difference}; the log is kept in {kept}"))
 }
 
-fn condition(condition: Condition, actions: u64) -> Vec<u8> {
+fn condition(condition: Condition, version: u8, actions: u64) -> Vec<u8> {
     let mut bytes = Vec::new();
-    let mut bench = Bench::begin(condition, &mut bytes);
+    let mut bench = Bench::begin(condition, version, &mut bytes);
     for _ in 0..actions {
         bench.action(&mut bytes);
     }
     bytes
 }
 
-/// A short log of each condition, in which every action must change the breaker.
+/// A short log of each condition in each version, in which every action must change the breaker.
 fn conditions(program: &str) -> Result<(), String> {
     let actions = 50;
-    each(ALL.into_iter(), |(which, name)| {
-        let lines = compare(program, name, &condition(which, actions), usize::MAX)?;
+    let versions = log::FIRST_VERSION..=log::LAST_VERSION;
+    let all = versions.flat_map(|version| ALL.map(|(which, name)| (which, version, name)));
+    each(all, |(which, version, name)| {
+        let name = format!("{name} in version {version}");
+        let lines = compare(program, &name, &condition(which, version, actions), usize::MAX)?;
         let statuses: Vec<_> = lines.lines().map(|line| line.split(' ').nth(2)).collect();
         let changes = statuses.windows(2).filter(|next| next[0] != next[1]).count();
         match changes as u64 == actions {
@@ -76,24 +90,14 @@ fn conditions(program: &str) -> Result<(), String> {
             false => Err(format!("{name}: {actions} actions, but {changes} changes of the breaker")),
         }
     })?;
-    println!("{} conditions, {actions} actions each", ALL.len());
+    println!("{} conditions in each version, {actions} actions each", ALL.len());
     Ok(())
 }
 
-fn walk(seed: u64, count: usize) -> Vec<u8> {
-    let mut walk = Walk::new(seed);
-    let mut bytes = vec![log::VERSION];
-    for _ in 0..count {
-        log::write(&walk.step().0, &mut bytes);
-    }
-    bytes
-}
-
 fn cut_logs(program: &str) -> Result<(), String> {
-    let mut front = Vec::new();
-    Bench::begin(Condition::FaultFree, &mut front);
-    let cuts: Vec<Vec<u8>> =
-        [front, walk(3, 15)].iter().flat_map(|log| (0..=log.len()).map(|end| log[..end].to_vec())).collect();
+    let front = condition(Condition::FaultFree, 1, 0);
+    let logs = [front, walk_log(3, 15, 1), parse(PAIRS)?.bytes];
+    let cuts: Vec<Vec<u8>> = logs.iter().flat_map(|log| (0..=log.len()).map(|end| log[..end].to_vec())).collect();
     let count = cuts.len();
     each(cuts.into_iter(), |cut| {
         compare(program, &format!("a log cut to {} bytes", cut.len()), &cut, usize::MAX).map(|_| ())
@@ -104,8 +108,11 @@ fn cut_logs(program: &str) -> Result<(), String> {
 
 /// Logs of many blocks, whole and in pieces that end inside records and inside lengths.
 fn long_logs(program: &str) -> Result<(), String> {
-    let logs =
-        [("a long walk", walk(2, 40_000)), ("a long run under attack", condition(Condition::ByzantineRecovery, 800))];
+    let logs = [
+        ("a long walk", walk_log(2, 40_000, 1)),
+        ("a long walk with pairs", walk_log(8, 40_000, 2)),
+        ("a long run under attack", condition(Condition::ByzantineRecovery, 1, 800)),
+    ];
     let all = logs.iter().flat_map(|(name, bytes)| {
         let pieces = [(bytes.len(), bytes.len()), (bytes.len(), 4093), (bytes.len(), 13), (20_000, 1)];
         pieces.map(|(end, piece)| (format!("{name}, {end} bytes in pieces of {piece}"), &bytes[..end], piece))
@@ -115,44 +122,31 @@ fn long_logs(program: &str) -> Result<(), String> {
     Ok(())
 }
 
-/// Random logs one behind the other: all but the last are well-formed. A start replaces everything, so a log is
-/// not troubled by those before it; what comes before its first start meets the site that they left.
+/// Random logs of one version, one behind the other: all but the last are well-formed. A start replaces everything,
+/// so a log is not troubled by those before it; what comes before its first start meets the site that they left.
 struct Batch {
     bytes: Vec<u8>,
     seeds: Vec<u64>,
 }
 
 impl Batch {
-    fn next(seeds: &mut impl Iterator<Item = u64>) -> Option<Batch> {
-        let mut batch = Batch { bytes: vec![log::VERSION], seeds: Vec::new() };
-        for seed in seeds {
-            let bytes = random_log(seed, USUAL);
+    fn next(logs: &mut Peekable<impl Iterator<Item = (u64, Vec<u8>)>>) -> Option<Batch> {
+        let (seed, bytes) = logs.next()?;
+        let mut goes_on = is_well_formed(&bytes);
+        let mut batch = Batch { bytes, seeds: vec![seed] };
+        while goes_on && batch.seeds.len() < BATCH {
+            let Some((seed, bytes)) = logs.next_if(|(_, bytes)| bytes.first() == batch.bytes.first()) else { break };
+            goes_on = is_well_formed(&bytes);
+            batch.bytes.extend(&bytes[1..]);
             batch.seeds.push(seed);
-            let well_formed = match bytes.split_first() {
-                Some((&log::VERSION, records)) => {
-                    batch.bytes.extend(records);
-                    is_well_formed(records)
-                }
-                // No version to take off: the log is run by itself.
-                _ if batch.seeds.len() == 1 => {
-                    batch.bytes = bytes;
-                    false
-                }
-                _ => {
-                    batch.bytes.extend(bytes);
-                    false
-                }
-            };
-            if !well_formed || batch.seeds.len() == BATCH {
-                break;
-            }
         }
-        (!batch.seeds.is_empty()).then_some(batch)
+        Some(batch)
     }
 }
 
-fn is_well_formed(mut records: &[u8]) -> bool {
-    while let Some((_, length)) = log::read(records) {
+fn is_well_formed(bytes: &[u8]) -> bool {
+    let Some((version, mut records)) = log::open(bytes) else { return false };
+    while let Some((_, length)) = log::read(version, records) {
         records = &records[length..];
     }
     records.is_empty()
@@ -160,8 +154,10 @@ fn is_well_formed(mut records: &[u8]) -> bool {
 
 fn random_logs(program: &str, logs: u64) -> Result<(), String> {
     let total = Mutex::new(Tally::default());
-    let mut seeds = 1..=logs;
-    each(std::iter::from_fn(|| Batch::next(&mut seeds)), |batch| {
+    let mut seeds: Vec<u64> = (1..=logs).collect();
+    seeds.sort_by_key(|&seed| version_of(seed));
+    let mut in_order = seeds.into_iter().map(|seed| (seed, random_log(seed, USUAL))).peekable();
+    each(from_fn(|| Batch::next(&mut in_order)), |batch| {
         let name = format!("the seeds {:?}, one behind the other", batch.seeds);
         match compare(program, &name, &batch.bytes, usize::MAX) {
             Ok(lines) => total.lock().unwrap().count(&batch.bytes, &lines),
@@ -174,6 +170,7 @@ fn random_logs(program: &str, logs: u64) -> Result<(), String> {
         }
         Ok(())
     })?;
-    println!("{logs} random logs, {}", total.into_inner().unwrap());
+    let second = (1..=logs).filter(|&seed| version_of(seed) == 2).count();
+    println!("{logs} random logs, {second} of version 2, {}", total.into_inner().unwrap());
     Ok(())
 }

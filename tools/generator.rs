@@ -1,8 +1,8 @@
-//! Random logs. A walk follows the reference's state, so that most of its steps are accepted and it gets
-//! far into the protocol; some of its steps are then spoiled, at the limits for choice.
+//! Random walks. A walk follows the reference's state, so that most of its steps are accepted and it gets
+//! far into the protocol; some of its steps are then spoiled, at the limits for choice. A walk of version 1
+//! delivers shares one by one; one of version 2 mixes in pairs, more or fewer or none.
 
 use crate::random::Random;
-use reference::log;
 use reference::model::{fresh, state, Answer, Model, Pair, Record, Running, Site, State, Status, Step};
 use std::collections::BTreeSet;
 
@@ -15,9 +15,11 @@ pub struct Walk {
     restarts: u64,
     spoils: u64,
     wild: u64,
+    /// How many of ten deliveries are pairs.
+    pairs: u64,
     /// Ticks still to be made at once, on the way to the top of the clock.
     hurry: u64,
-    top: bool,
+    pub top: bool,
 }
 
 const EDGES: [u32; 12] = [
@@ -45,15 +47,27 @@ fn running(record: &Record, fits: impl Fn(&Running) -> bool) -> bool {
     matches!(record, Record::Running(node) if fits(node))
 }
 
+/// Every sender's pairs around the window: at the lowest stamp and at the highest neither share is fresh, beside them one.
+fn pairs_near(site: &Site, receiver: u8, t: u32) -> Vec<(u8, Step)> {
+    let mut pairs = Vec::new();
+    for (sender, status) in (0..site.n).flat_map(|sender| [(sender, 0), (sender, 1)]) {
+        for stamp in t.saturating_sub(4)..=t + 3 {
+            pairs.push((sender, Step::Pair { sender, receiver, t, status, stamp }));
+        }
+    }
+    pairs
+}
+
 impl Walk {
-    pub fn new(seed: u64) -> Walk {
+    pub fn new(seed: u64, version: u8) -> Walk {
         let mut random = Random::new(seed);
         let ticks = random.pick(&[1, 2, 3, 5, 8, 15, 40]);
         let restarts = random.pick(&[30, 100, 300, 1000, 100_000]);
         let spoils = random.pick(&[4, 10, 20, 50]);
         let wild = random.pick(&[15, 60, 200]);
         let top = random.one_in(16);
-        Walk { random, model: Model::default(), ticks, restarts, spoils, wild, hurry: 0, top }
+        let pairs = if version == 1 { 0 } else { random.pick(&[0, 3, 6, 9, 10]) };
+        Walk { random, model: Model::default(), ticks, restarts, spoils, wild, pairs, hurry: 0, top }
     }
 
     /// The next step, carried out on the reference as well.
@@ -234,7 +248,32 @@ impl Walk {
         all.filter(|(sender, share)| lacks(share, sender)).collect()
     }
 
+    /// A pair: mostly one that is taken, and for choice with a share that the receiver lacks.
+    fn pair(&mut self, site: &Site, receiver: u8) -> Step {
+        let t = self.node_clock(site, receiver);
+        let missing = self.missing(site, receiver, u64::from(t));
+        let near = pairs_near(site, receiver, t);
+        let is_taken = |(sender, pair): &(u8, Step)| {
+            let fresh = pair.fresh_ones();
+            !fresh.is_empty() && fresh.into_iter().all(|share| site.has_made(*sender, share))
+        };
+        let taken: Vec<_> = near.iter().copied().filter(is_taken).collect();
+        let brings = |(sender, pair): &(u8, Step)| {
+            pair.fresh_ones().into_iter().any(|share| missing.contains(&(*sender, share)))
+        };
+        let wanted: Vec<_> = taken.iter().copied().filter(brings).collect();
+        let (_, pair) = match self.random.below(12) {
+            0..=7 if !wanted.is_empty() => self.random.pick(&wanted),
+            0..=10 if !taken.is_empty() => self.random.pick(&taken),
+            _ => self.random.pick(&near),
+        };
+        pair
+    }
+
     fn deliver(&mut self, site: &Site, receiver: u8) -> Step {
+        if self.pairs > 0 && self.random.below(10) < self.pairs {
+            return self.pair(site, receiver);
+        }
         let t = self.node_clock(site, receiver);
         let missing = self.missing(site, receiver, u64::from(t));
         if !missing.is_empty() && self.random.below(3) > 0 {
@@ -329,6 +368,13 @@ impl Walk {
                 3 => *status = status_now,
                 _ => *stamp = stamp_now,
             },
+            Step::Pair { sender, receiver, t, status, stamp } => match which {
+                0 => *sender = node_now,
+                1 => *receiver = node_now,
+                2 => *t = clock,
+                3 => *status = status_now,
+                _ => *stamp = random.pick(&[stamp_now, around, u32::MAX, u32::MAX - 1]),
+            },
             Step::Command { t, status, stamp } => match which {
                 0 => *t = clock,
                 1 => *status = status_now,
@@ -356,7 +402,7 @@ impl Walk {
         let (a, b, c, d) = (byte(), byte(), byte() % 3, byte());
         let mut word = || if random.one_in(4) { random.pick(&EDGES) } else { g + random.below(3) as u32 };
         let (t, stamp) = (word(), word());
-        match random.below(11) {
+        match random.below(if self.pairs > 0 { 12 } else { 11 }) {
             0 => Step::Start { f: a, k: b, set: random.next() as u16 & random.next() as u16 & 0xff, status: c, g: t },
             1 => Step::Tick,
             2 => Step::Report { node: a, t, status: c, number: random.next() as u32 },
@@ -367,54 +413,12 @@ impl Walk {
             7 => Step::Ack { node: a, t, back: d },
             8 => Step::Query { node: a, t },
             9 => Step::Down { node: a },
-            _ => Step::Up { node: a },
+            10 => Step::Up { node: a },
+            _ => Step::Pair { sender: a, receiver: b, t, status: c, stamp },
         }
     }
 }
 
-fn random_byte(random: &mut Random) -> u8 {
+pub fn random_byte(random: &mut Random) -> u8 {
     random.next() as u8
-}
-
-/// How many records a log of the comparison has.
-pub const USUAL: usize = 400;
-
-/// A whole log for a seed. One in five is damaged, and one in forty is nothing but bytes.
-pub fn random_log(seed: u64, count: usize) -> Vec<u8> {
-    let mut random = Random::new(!seed);
-    let mut bytes = vec![log::VERSION];
-    if random.one_in(40) {
-        bytes.extend((0..random.below(60)).map(|_| random_byte(&mut random) % 13));
-        return bytes;
-    }
-    let mut walk = Walk::new(seed);
-    let extra = if walk.top { 1000 } else { 0 };
-    for _ in 0..count + extra {
-        log::write(&walk.step().0, &mut bytes);
-    }
-    if random.one_in(5) {
-        for _ in 0..1 + random.below(3) {
-            damage(&mut bytes, &mut random);
-        }
-    }
-    bytes
-}
-
-fn damage(bytes: &mut Vec<u8>, random: &mut Random) {
-    let size = bytes.len() as u64;
-    if size == 0 {
-        return;
-    }
-    let at = random.below(size) as usize;
-    match random.below(8) {
-        0..=2 => bytes[at] ^= 1 << random.below(8),
-        3 => bytes[at] = random_byte(random),
-        4 => bytes.truncate(at),
-        5 => bytes.insert(at, random_byte(random) % 13),
-        6 => {
-            bytes.remove(at);
-        }
-        _ if random.one_in(4) => bytes[0] = random_byte(random),
-        _ => bytes[at] = 0,
-    }
 }

@@ -7,3 +7,4 @@ pub mod generator;
 pub mod notation;
 pub mod programs;
 pub mod random;
+pub mod random_logs;

@@ -6,7 +6,8 @@
 //!     bytes 00 01 02                  | 5 0 C 100 -    # a record written out; without a line, part of one
 //!
 //! The version byte 1 stands at the front of the log, unless the first line says `version N` or
-//! `version none`. A status is CLOSE, TRIP or a number. A line with 17 is the last that a run prints; what
+//! `version none`. `Pair(sender, receiver, t, status, T)` is of version 2; it can be written in a log of any other,
+//! to see it turned away. A status is CLOSE, TRIP or a number. A line with 17 is the last that a run prints; what
 //! stands behind it is still part of the log. A step may leave its line out, and then it is not compared.
 //!
 //! A line of four words has left its step number out, and begins with the refusal: the number is counted, so
@@ -15,7 +16,7 @@
 //!     Tick x 3                        | 0 C 100 -
 //!
 //! A run of the Arbiter is written alike and becomes calls, which have no version. It has `Message(sender, t,
-//! status, T)`, and neither Deliver nor Command nor ResendTimeout.
+//! status, T)`, and neither Deliver nor Pair nor Command nor ResendTimeout.
 
 use reference::model::Step;
 use reference::{arbiter, calls, log};
@@ -32,7 +33,7 @@ struct Form {
 
 const LOG: Form = Form {
     site: "the Peer site",
-    version: Some(log::VERSION),
+    version: Some(log::FIRST_VERSION),
     steps: &[
         "Start",
         "Tick",
@@ -45,6 +46,7 @@ const LOG: Form = Form {
         "Query",
         "Down",
         "Up",
+        "Pair",
     ],
     write: |said, out| match said {
         Said::Step(step) => log::write(step, out),
@@ -77,7 +79,9 @@ fn in_the_arbiter(said: &Said) -> arbiter::Step {
             Step::Query { node, t } => arbiter::Step::Query { node, t },
             Step::Down { node } => arbiter::Step::Down { node },
             Step::Up { node } => arbiter::Step::Up { node },
-            Step::Deliver { .. } | Step::ResendTimeout { .. } | Step::Command { .. } => unreachable!(),
+            Step::Deliver { .. } | Step::Pair { .. } | Step::ResendTimeout { .. } | Step::Command { .. } => {
+                unreachable!()
+            }
         },
     }
 }
@@ -359,10 +363,14 @@ impl<'a> Words<'a> {
                 let (node, t, status) = (self.byte()?, self.then(Self::number)?, self.then(Self::status)?);
                 Step::Report { node, t, status, number: self.then(Self::number)? }
             }
-            "Deliver" => {
+            "Deliver" | "Pair" => {
                 let (sender, receiver) = (self.byte()?, self.then(Self::byte)?);
                 let (t, status) = (self.then(Self::number)?, self.then(Self::status)?);
-                Step::Deliver { sender, receiver, t, status, stamp: self.then(Self::number)? }
+                let stamp = self.then(Self::number)?;
+                match name {
+                    "Pair" => Step::Pair { sender, receiver, t, status, stamp },
+                    _ => Step::Deliver { sender, receiver, t, status, stamp },
+                }
             }
             "ShareTimeout" => Step::ShareTimeout { node: self.byte()?, t: self.then(Self::number)? },
             "ResendTimeout" => Step::ResendTimeout { node: self.byte()?, t: self.then(Self::number)? },

@@ -1,5 +1,6 @@
-//! One of the five conditions as a log: `table1 CONDITION ACTIONS > log`.
+//! One of the five conditions as a log of version 1: `table1 CONDITION ACTIONS > log`.
 
+use reference::log;
 use std::io::{stdout, Write};
 use std::process::exit;
 use tools::conditions::{Bench, ALL};
@@ -20,7 +21,7 @@ fn main() {
     };
     let mut out = stdout().lock();
     let mut bytes = Vec::with_capacity(1 << 17);
-    let mut bench = Bench::begin(*condition, &mut bytes);
+    let mut bench = Bench::begin(*condition, log::FIRST_VERSION, &mut bytes);
     for _ in 0..actions {
         bench.action(&mut bytes);
         if bytes.len() > 1 << 16 {

@@ -1,10 +1,11 @@
 //! How often each kind of step had which answer, so that one sees how far the random logs go.
 
 use reference::log;
+use reference::model::Step;
 use std::collections::BTreeMap;
 use std::fmt::{Display, Formatter, Result};
 
-const KINDS: [&str; 12] = [
+const KINDS: [&str; 13] = [
     "malformed",
     "Start",
     "Tick",
@@ -17,6 +18,7 @@ const KINDS: [&str; 12] = [
     "Query",
     "Down",
     "Up",
+    "Pair",
 ];
 
 #[derive(Default)]
@@ -26,23 +28,49 @@ pub struct Tally {
     /// Accepted commands that changed the breaker's status, and those that found it as they wanted it.
     changes: u64,
     repeats: u64,
+    pairs: Pairs,
+}
+
+#[derive(Default)]
+struct Pairs {
+    /// Accepted pairs of which both shares were stored, and those of which one was.
+    both: u64,
+    one: u64,
+    commands: u64,
+    /// Records of a pair that ended a log of version 1.
+    too_early: u64,
+}
+
+impl Pairs {
+    fn count(&mut self, step: &Step, answer: u8, sent: &str) {
+        if !matches!(step, Step::Pair { .. }) || answer != 0 {
+            return;
+        }
+        *(if step.fresh_ones().len() == 2 { &mut self.both } else { &mut self.one }) += 1;
+        self.commands += u64::from(sent.starts_with('C'));
+    }
 }
 
 impl Tally {
     /// Adds a log and the lines that were printed for it.
     pub fn count(&mut self, bytes: &[u8], lines: &str) {
-        let mut rest = bytes.get(1..).unwrap_or_default();
+        let (version, mut rest) = log::open(bytes).unwrap_or_default();
         let mut status = "-";
         for line in lines.lines() {
             let words: Vec<&str> = line.split(' ').collect();
             let answer: u8 = words[1].parse().unwrap();
-            let kind = match log::read(rest) {
-                Some((_, length)) if answer != 17 => {
+            let kind = match log::read(version, rest) {
+                Some((step, length)) => {
+                    self.pairs.count(&step, answer, words[4]);
                     let kind = rest[2];
                     rest = &rest[length..];
                     kind
                 }
-                _ => 0,
+                None => {
+                    let is_pair = matches!(log::read(log::LAST_VERSION, rest), Some((Step::Pair { .. }, _)));
+                    self.pairs.too_early += u64::from(version == log::FIRST_VERSION && is_pair);
+                    0
+                }
             };
             *self.answers.entry((kind, answer)).or_default() += 1;
             self.commands += words[4].split(',').filter(|message| message.starts_with('C')).count() as u64;
@@ -68,6 +96,10 @@ impl Display for Tally {
             let answers: Vec<String> = answers.map(|((_, answer), times)| format!("{answer}: {times}")).collect();
             writeln!(out, "  {name:<13} {}", answers.join("  "))?;
         }
-        Ok(())
+        let Pairs { both, one, commands, too_early } = self.pairs;
+        writeln!(
+            out,
+            "pairs of which both shares were stored: {both}, one of the two: {one}; that sent a command: {commands}; in logs of version 1: {too_early}"
+        )
     }
 }

@@ -2,6 +2,7 @@
 -- An event that the phase does not take, and an ack of a change that is not remembered, are refused before they come here.
 use Prim.Native.Nat.{ℕ}
 use Rattle.time.specs.declared.Dts.{Dts}
+use Rattle.time.specs.Fresh.{next}
 use Rattle.store.specs.declared.Store.{Store}
 use Rattle.store.specs.Store.{put}
 use Rattle.pairs.specs.declared.Known.{Known}
@@ -15,7 +16,7 @@ use Rattle.events.specs.Events.{unchanged, storeAt, reported, shareTimedOut, re
 use Rattle.breaker.specs.declared.Breaker.{Breaker}
 use Rattle.breaker.specs.Breaker.{changeAt}
 use Rattle.steps.specs.declared.Event.{Event}
-use Rattle.steps.specs.declared.Event.the-variants.{Report, Deliver, ShareTimeout, ResendTimeout, Ack, Query}
+use Rattle.steps.specs.declared.Event.the-variants.{Report, Deliver, DeliverPair, ShareTimeout, ResendTimeout, Ack, Query}
 
 -- an ack brings a change, if it is remembered
 abbrev pub ackedBy : Phase → Known → Changed
@@ -26,15 +27,18 @@ ackedBy phase No = unchanged phase
 unfoldable pub changedBy : Breaker → Phase → Dts → Event → Changed
 changedBy breaker phase t (Report status number) = reported phase t status number
 changedBy breaker phase t (Deliver sender status T) = unchanged phase
+changedBy breaker phase t (DeliverPair sender status T) = unchanged phase
 changedBy breaker phase t ShareTimeout = shareTimedOut phase t
 changedBy breaker phase t ResendTimeout = resendTimedOut phase t
 changedBy breaker phase t (Ack back) = ackedBy phase (changeAt breaker back)
 changedBy breaker phase t Query = queried phase (breaker .pair)
 
--- the store at the clock of an event, with the share that it delivers: Deliver "Stores the share, in every running state."
+-- the store at the clock of an event, with the share that it delivers: Deliver "Stores the share, in every running state." Of a pair "The fresh ones of the two
+-- are stored together, all else as Deliver" (§6 of 02): a store takes what is fresh at its clock, and nothing else (`put`)
 unfoldable pub stored : Phase → Store → Dts → Event → Store
 stored phase store t (Report status number) = storeAt phase store t
 stored phase store t (Deliver sender status T) = put (storeAt phase store t) sender status T
+stored phase store t (DeliverPair sender status T) = put (put (storeAt phase store t) sender status (next T)) sender status T
 stored phase store t ShareTimeout = storeAt phase store t
 stored phase store t ResendTimeout = storeAt phase store t
 stored phase store t (Ack back) = storeAt phase store t

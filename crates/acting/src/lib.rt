@@ -32,6 +32,11 @@ pub fn change(breaker: Breaker, phase: Phase, t: Dts, event: Event) -> Changed
             status: _,
             stamp: _,
         } => events::unchanged(phase),
+        Event::DeliverPair {
+            sender: _,
+            status: _,
+            stamp: _,
+        } => events::unchanged(phase),
         Event::ShareTimeout => events::share_timeout(phase, t),
         Event::ResendTimeout => events::resend_timeout(phase, t),
         Event::Ack { back } => {
@@ -42,20 +47,28 @@ pub fn change(breaker: Breaker, phase: Phase, t: Dts, event: Event) -> Changed
     }
 }
 
-// The store at the clock of an event, with the share that it delivers.
+// The store at the clock of an event, with the share or the pair that it delivers. The store takes the fresh ones.
 fn hold(phase: Phase, store: Store, t: Dts, event: Event) -> Store
     ensures { λ out. ⌜ out ≡ stored phase store t event ⌝ }
 {
     let now = events::store_at(phase, store, t);
-    let Event::Deliver {
-        sender,
-        status,
-        stamp,
-    } = event
-    else {
-        return now;
-    };
-    now.put(sender, status, stamp)
+    match event {
+        Event::Deliver {
+            sender,
+            status,
+            stamp,
+        } => now.put(sender, status, stamp),
+        Event::DeliverPair {
+            sender,
+            status,
+            stamp,
+        } => {
+            let next = time::next(stamp);
+            let second = now.put(sender, status, next);
+            second.put(sender, status, stamp)
+        }
+        _ => now,
+    }
 }
 
 // An event at node i of a site whose threshold is f + 1.

@@ -7,7 +7,7 @@ use lib.Dec.{eqb}
 use Rattle.refusals.specs.Tests.{refusal, passed}
 use Rattle.time.specs.declared.Micros.{Micros}
 use Rattle.time.specs.declared.Dts.{Dts}
-use Rattle.time.specs.Discretising.{discretised, defaultInterval}
+use Rattle.time.specs.Discretising.{discretisedBy, discretised, defaultInterval}
 use Rattle.time.specs.Fresh.{freshAt}
 use Rattle.time.specs.Newer.{newer, ahead}
 use Rattle.senders.specs.Sets.{countBelow}
@@ -57,7 +57,7 @@ isWait A (Done B) = false
 isWait A (Attempt B) = false
 isWait A (Wait B) = eqb A B
 
-abbrev beginning : (f k compromised status : ℕ) → Dts → Beginning
+abbrev pub beginning : (f k compromised status : ℕ) → Dts → Beginning
 beginning f k compromised status g = record { f = f; k = k; compromised = compromised; status = status; g = g }
 
 -- a command at the breaker's clock
@@ -114,5 +114,5 @@ all [] = true
 all (e ∷ es) = e .1 && all es
 
 pub every-edge : all edges ≡ true
-unfolding edges discretised refusal passed state newer ahead size countBelow isIn joined within together stepped testsOf effectOf siteSound setsSound storeWithin breakerSound changesSound commanded afterCommand changed remembered started startedSite sendersOf hasPlace put empty table wentDown
+unfolding edges discretisedBy refusal passed state newer ahead size countBelow isIn joined within together stepped testsOf effectOf siteSound setsSound storeWithin breakerSound changesSound commanded afterCommand changed remembered started startedSite sendersOf hasPlace put empty table wentDown
 every-edge = refl

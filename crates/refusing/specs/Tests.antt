@@ -13,7 +13,7 @@ use Rattle.store.specs.Store.{sendersOf}
 use Rattle.store.specs.Held.{held}
 use Rattle.steps.specs.declared.Beginning.{Beginning}
 use Rattle.steps.specs.declared.Step.{Step}
-use Rattle.steps.specs.Named.{StepKind, tick, report, deliver, shareTimeout, resendTimeout, command, ack, query, down, up, Said, Named, named, isKind, among, ofNamed, ofEach}
+use Rattle.steps.specs.Named.{StepKind, tick, report, deliver, shareTimeout, resendTimeout, command, ack, query, down, up, deliverPair, Said, Named, named, isKind, among, ofNamed, ofEach, ofOne, paired}
 use Rattle.node.specs.declared.Node.{Node}
 use Rattle.node.specs.declared.Phase.{Phase}
 use Rattle.node.specs.declared.Phase.the-variants.{Starting, Running, Down}
@@ -50,7 +50,7 @@ canDeliver site sender A T = isIn (site .compromised) sender || held (site .made
 abbrev pub phaseTakes : Phase → StepKind → Bool
 phaseTakes Down kind = among kind (up ∷ [])
 phaseTakes (Starting learned) kind = among kind (report ∷ ack ∷ query ∷ down ∷ [])
-phaseTakes (Running rec) kind = among kind (report ∷ deliver ∷ shareTimeout ∷ resendTimeout ∷ ack ∷ down ∷ [])
+phaseTakes (Running rec) kind = among kind (report ∷ deliver ∷ deliverPair ∷ shareTimeout ∷ resendTimeout ∷ ack ∷ down ∷ [])
 
 -- a node's last accepted clock, 0 where it has none yet
 abbrev pub nodeClock : Node → Dts
@@ -84,18 +84,26 @@ canBegin lent b =
     && leb (size (b .compromised)) (b .f)
     && leb (nodes (b .f) (b .k)) lent
 
--- 2: "node or sender ≥ n, status above 1, back above 7"
+-- the last stamp that 32 bits hold
+abbrev pub topStamp : ℕ
+topStamp = 4_294_967_295
+
+-- 2: "node or sender ≥ n, status above 1, back above 7"; of a pair "2 also for T equal to 4,294,967,295" (§6 of 02)
 abbrev pub areInRange : Site → Said → Bool
-areInRange site said = ofNamed (said .sender) (isNode site) && (ofNamed (said .status) isStatus && ofNamed (said .back) (λ back. leb back 7))
+areInRange site said =
+    ofNamed (said .sender) (isNode site)
+    && (ofNamed (said .status) isStatus
+    && (ofNamed (said .back) (λ back. leb back 7)
+    && ofNamed (paired (said .stamps)) λ T. not (eqb (T .0) topStamp)))
 
--- 7: "T not fresh at t"
+-- 7: "T not fresh at t"; of a pair "7 when neither is fresh" (§6 of 02)
 abbrev pub areFresh : Option Dts → Said → Bool
-areFresh clock said = ofNamed clock λ t. ofEach (said .stamps) λ T. fresh T t
+areFresh clock said = ofNamed clock λ t. ofOne (said .stamps) λ T. fresh T t
 
--- 8: "share not made by its correct sender; for Command, verdict no"
-abbrev pub areVouchedFor : Site → Said → Bool
-areVouchedFor site said =
-    ofNamed (said .sender) (λ i. ofNamed (said .status) λ A. ofEach (said .stamps) (canDeliver site i A))
+-- 8: "share not made by its correct sender; for Command, verdict no"; of a pair "8 when a fresh one wasn't made" (§6 of 02)
+abbrev pub areVouchedFor : Site → Option Dts → Said → Bool
+areVouchedFor site clock said =
+    (ofNamed clock λ t. ofNamed (said .sender) λ i. ofNamed (said .status) λ A. ofEach (said .stamps) λ T. not (fresh T t) || canDeliver site i A T)
     && (not (isKind (said .kind) command) || ofNamed (said .status) λ A. ofEach (said .stamps) (verdict site A))
 
 -- 11: "T ≤ breaker's stamp", and "only for a command that would change the status"; "10 is not given by Command from then on" (§4 of 02), and it was no
@@ -132,7 +140,7 @@ rowsFor site lent node the =
     ∷ (5, ofNamed (the .clock) (isNow site))
     ∷ (6, ofNamed (the .clock) λ t. leb (lastClock site node (the .actor) .0) (t .0))
     ∷ (7, areFresh (the .clock) (the .said))
-    ∷ (8, areVouchedFor site (the .said))
+    ∷ (8, areVouchedFor site (the .clock) (the .said))
     ∷ (9, ofNamed (the .said .number) (isNew node))
     ∷ (11, areAbove site (the .said))
     ∷ (12, isTimeoutArmed node (the .said .kind))

@@ -30,7 +30,7 @@ ghost use mathlib.Core.List.{[], _∷_};
 ghost use Rattle.refusals.specs.Tests.{refusal};
 ghost use Rattle.site.specs.Site.{siteSound, actorSound};
 ghost use Rattle.refusing.specs.Tests.{isNow, isNode, verdict, canDeliver, canBegin};
-ghost use Rattle.refusing.specs.laws.Parts.{whoTests, whenTests, shareTests, asked, commandFirst, commandLast, actTests, tickTests, givenTests};
+ghost use Rattle.refusing.specs.laws.Parts.{whoTests, whenTests, shareTests, pairTests, asked, commandFirst, commandLast, actTests, tickTests, givenTests};
 
 // What is asked of one event: 2 of its fields, 4 of the node's phase, and the refusal of its own tests.
 struct Asked {
@@ -38,6 +38,9 @@ struct Asked {
     phase: bool,
     own: u8,
 }
+
+// The last stamp that 32 bits hold.
+const TOP_STAMP: u32 = 4294967295;
 
 pub fn is_now(site: Site, t: Dts) -> bool
     ensures { λ out. ⌜ out ≡ isNow site t ⌝ }
@@ -114,6 +117,20 @@ pub fn share(site: Site, t: Dts, sender: u8, status: u8, stamp: Dts) -> u8
     first(a, b)
 }
 
+// Tests 7 and 8 of a pair: one of the two is fresh, and each that is fresh was made.
+fn pair(site: Site, t: Dts, sender: u8, status: u8, stamp: Dts) -> u8
+    ensures { λ out. ⌜ out ≡ refusal (pairTests site t sender status stamp) ⌝ }
+{
+    let second = time::next(stamp);
+    let a_fresh = time::is_fresh(stamp, t);
+    let b_fresh = time::is_fresh(second, t);
+    let a_made = can_deliver(site, sender, status, stamp);
+    let b_made = can_deliver(site, sender, status, second);
+    let a = test(7, a_fresh | b_fresh);
+    let b = test(8, (!a_fresh | a_made) & (!b_fresh | b_made));
+    first(a, b)
+}
+
 // What is asked of one event alone.
 fn ask(site: Site, node: Node, t: Dts, event: Event) -> Asked
     ensures { λ out. ⌜ out ≡ asked site node t event ⌝ }
@@ -139,6 +156,20 @@ fn ask(site: Site, node: Node, t: Dts, event: Event) -> Asked
             let own = share(site, t, sender, status, stamp);
             Asked {
                 fields: known & (status <= 1),
+                phase,
+                own,
+            }
+        }
+        Event::DeliverPair {
+            sender,
+            status,
+            stamp,
+        } => {
+            let known = is_node(site, sender);
+            let phase = is_running(node);
+            let own = pair(site, t, sender, status, stamp);
+            Asked {
+                fields: known & (status <= 1) & (stamp.0 != TOP_STAMP),
                 phase,
                 own,
             }

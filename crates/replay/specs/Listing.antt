@@ -27,7 +27,7 @@ use Rattle.refusing.specs.Tests.{testsOf}
 use Rattle.stepping.specs.Steps.{stepped}
 use Rattle.loans.specs.Loans.{madeFirst}
 use Rattle.lent.specs.Lent.{outOf, tableAfter}
-use Rattle.steps.specs.declared.Event.the-variants.{Report, Deliver, ShareTimeout, ResendTimeout, Ack, Query}
+use Rattle.steps.specs.declared.Event.the-variants.{Report, Deliver, DeliverPair, ShareTimeout, ResendTimeout, Ack, Query}
 use Rattle.steps.specs.declared.Turn.the-variants.{Down, Up}
 use Rattle.steps.specs.declared.Step.{Step}
 use Rattle.steps.specs.declared.Step.the-variants.{Start, Tick, AtNode, Life, AtBreaker}
@@ -179,11 +179,53 @@ cut =
 abbrev pub cutOutput : List ℕ
 cutOutput = ascii "1 0 C 100 -\n" ++ ascii "2 17 C 100 -\n"
 
+-- ---- a pair, in version 2 and in version 1
+
+-- Start(1, 0, {2}, CLOSE, 99); Query(0, 100); Report(0, 100, CLOSE, 1); Report(0, 100, TRIP, 2); and then Pair(2, 0, 100, TRIP, 100); Command(100, TRIP, 100)
+abbrev pub beforePair : List Step
+beforePair =
+    Start (record { f = 1; k = 0; compromised = 4; status = 0; g = stamp 99 })
+    ∷ AtNode 0 (stamp 100) Query
+    ∷ AtNode 0 (stamp 100) (Report 0 1)
+    ∷ AtNode 0 (stamp 100) (Report 1 2)
+    ∷ []
+
+abbrev pub fromPair : List Step
+fromPair = AtNode 0 (stamp 100) (DeliverPair 2 1 (stamp 100)) ∷ AtBreaker (stamp 100) (record { status = 1; stamp = stamp 100 }) ∷ []
+
+abbrev pub paired : ℕ → List ℕ
+paired version =
+    version ∷ 0 ∷ 10 ∷ 1 ∷ 1 ∷ 0 ∷ 0 ∷ 4 ∷ 0 ∷ 0 ∷ 0 ∷ 0 ∷ 99
+    ∷ 0 ∷ 6 ∷ 9 ∷ 0 ∷ 0 ∷ 0 ∷ 0 ∷ 100
+    ∷ 0 ∷ 11 ∷ 3 ∷ 0 ∷ 0 ∷ 0 ∷ 0 ∷ 100 ∷ 0 ∷ 0 ∷ 0 ∷ 0 ∷ 1
+    ∷ 0 ∷ 11 ∷ 3 ∷ 0 ∷ 0 ∷ 0 ∷ 0 ∷ 100 ∷ 1 ∷ 0 ∷ 0 ∷ 0 ∷ 2
+    ∷ 0 ∷ 12 ∷ 12 ∷ 2 ∷ 0 ∷ 0 ∷ 0 ∷ 0 ∷ 100 ∷ 1 ∷ 0 ∷ 0 ∷ 0 ∷ 100
+    ∷ 0 ∷ 10 ∷ 7 ∷ 0 ∷ 0 ∷ 0 ∷ 100 ∷ 1 ∷ 0 ∷ 0 ∷ 0 ∷ 100
+    ∷ []
+
+abbrev beforePairOutput : List ℕ
+beforePairOutput =
+    ascii "1 0 C 99 -\n"
+    ++ ascii "2 0 C 99 -\n"
+    ++ ascii "3 0 C 99 -\n"
+    ++ ascii "4 0 C 99 S0T@100,S0T@101\n"
+
+-- of the two stamps that the pair completes the earlier is sent; in version 1 there is no such kind
+abbrev pub pairedOutput : List ℕ
+pairedOutput = beforePairOutput ++ ascii "5 0 C 99 CT@100\n" ++ ascii "6 0 T 100 AT@100\n"
+
+abbrev pub unpairedOutput : List ℕ
+unpairedOutput = beforePairOutput ++ ascii "5 17 C 99 -\n"
+
 -- ---- what they print
 
-computed : Computes listing listed output × Computes everyKind ofEveryKind everyOutput × Computes cut cutSteps cutOutput
+computed : Computes listing listed output
+    × Computes everyKind ofEveryKind everyOutput
+    × Computes cut cutSteps cutOutput
+    × Computes (paired 2) (beforePair ++ fromPair) pairedOutput
+    × Computes (paired 1) beforePair unpairedOutput
 unfolding firstRun applied stepLine overAfter malformedLine nextTurn nextIn advanced ranOf taken takenIn openedAs readAt numberAt isVersion kindIn fieldValues outOf tableAfter stepped testsOf effectOf refusal passed startedSite firstRecord madeFirst table empty started act finished combined putAll acted changedBy stored reported reportRunning reportStarting reportShares kept queried shareTimedOut resendTimedOut acked ackStarting ackRunning ackResend wentDown wentUp begun ticked turned movedTo turn leftAt put placeOf held sendersOf hasPlace storeWithin earliest qualifies next siteSound setsSound actorSound nodeInRange nodeSound breakerSound changesSound afterCommand answered changed changeAt remembered commanded newer ahead size countBelow isIn joined within together state lineOf tailText afterCommas decimal spelled placesIn
-computed = ((refl, refl, refl), (refl, refl, refl), (refl, refl, refl))
+computed = ((refl, refl, refl), (refl, refl, refl), (refl, refl, refl), (refl, refl, refl), (refl, refl, refl))
 
 pub listing-prints : Whole listing listed output
 listing-prints = whole (computed .0)
@@ -193,3 +235,9 @@ every-kind-prints = whole (computed .1)
 
 pub cut-prints : Whole cut cutSteps cutOutput
 cut-prints = whole (computed .2)
+
+pub paired-prints : Whole (paired 2) (beforePair ++ fromPair) pairedOutput
+paired-prints = whole (computed .3)
+
+pub unpaired-prints : Whole (paired 1) beforePair unpairedOutput
+unpaired-prints = whole (computed .4)

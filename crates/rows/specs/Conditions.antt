@@ -1,5 +1,5 @@
 -- Document 01's table of refusals: the condition of each row, and the order in which the rows are checked.
--- `Of (the .clock) λ t. C` reads "the step names a clock t, and C", `OneOf` the same of one of some. `×` is "and", `⊎` is "or", `→ ⊥` is "not".
+-- `Of (the .clock) λ t. C` reads "the step names a clock t, and C", `OneOf` the same of one of some, `AllOf` of some and each of them. `×` is "and", `⊎` is "or", `→ ⊥` is "not".
 use Prim.Native.Nat.{ℕ, _+_, _≤_, _<_}
 use mathlib.Core.Path.{_≡_}
 use mathlib.Core.Bool.{true, false}
@@ -16,7 +16,7 @@ use Rattle.pairs.specs.declared.Pair.{Pair}
 use Rattle.pairs.specs.declared.Known.{Known}
 use Rattle.pairs.specs.declared.Known.the-variants.{Yes, No}
 use Rattle.steps.specs.declared.Beginning.{Beginning}
-use Rattle.steps.specs.Named.{tick, shareTimeout, resendTimeout, command, down, Said, Named, Of, OneOf}
+use Rattle.steps.specs.Named.{tick, shareTimeout, resendTimeout, command, down, Said, Named, Of, OneOf, AllOf, paired}
 use Rattle.node.specs.declared.Last.{Last}
 use Rattle.node.specs.declared.Last.the-variants.{Number, Unknown}
 use Rattle.node.specs.declared.Resend.{Resend}
@@ -126,13 +126,14 @@ module _ (site : Site) (lent : ℕ) (node : Node) (the : Named) where
       ⊎ (b .f < size (b .compromised))
       ⊎ (lent < nodes (b .f) (b .k))
 
-  -- 2: "node or sender ≥ n, status above 1, back above 7"
+  -- 2: "node or sender ≥ n, status above 1, back above 7"; of a pair "2 also for T equal to 4,294,967,295" (§6 of 02)
   abbrev pub OutsideItsRange : Type 0
   OutsideItsRange =
       Of (the .actor) (λ i. n site ≤ i)
       ⊎ Of (said .sender) (λ i. n site ≤ i)
       ⊎ Of (said .status) (λ A. 1 < A)
       ⊎ Of (said .back) (λ back. 7 < back)
+      ⊎ Of (paired (said .stamps)) (λ T. T .0 ≡ 4_294_967_295)
 
   -- 3: "the acting node (for Deliver, the receiver) is compromised"
   abbrev pub ActorCompromised : Type 0
@@ -150,15 +151,15 @@ module _ (site : Site) (lent : ℕ) (node : Node) (the : Named) where
   abbrev pub BelowLastClock : Type 0
   BelowLastClock = Of (the .clock) λ t. t .0 < lastClock site node (the .actor) .0
 
-  -- 7: "T not fresh at t"
+  -- 7: "T not fresh at t"; of a pair "7 when neither is fresh" (§6 of 02)
   abbrev pub NotFresh : Type 0
-  NotFresh = Of (the .clock) λ t. OneOf (said .stamps) λ T. (T .0 + 2 < t .0) ⊎ (t .0 + 2 < T .0)
+  NotFresh = Of (the .clock) λ t. AllOf (said .stamps) λ T. (T .0 + 2 < t .0) ⊎ (t .0 + 2 < T .0)
 
-  -- 8: "share not made by its correct sender; for Command, verdict no"
+  -- 8: "share not made by its correct sender; for Command, verdict no"; of a pair "8 when a fresh one wasn't made" (§6 of 02)
   abbrev pub ShareNotMade : Type 0
   ShareNotMade =
-      Of (said .sender) λ i. Of (said .status) λ A. OneOf (said .stamps) λ T.
-      (isIn (site .compromised) i ≡ false) × (held (site .made) A T i ≡ false)
+      Of (the .clock) λ t. Of (said .sender) λ i. Of (said .status) λ A. OneOf (said .stamps) λ T.
+      ((t .0 ≤ T .0 + 2) × (T .0 ≤ t .0 + 2)) × ((isIn (site .compromised) i ≡ false) × (held (site .made) A T i ≡ false))
 
   abbrev pub VerdictNo : Type 0
   VerdictNo =

@@ -1,44 +1,56 @@
 -- Rows 1 and 15 of a discretising: when each is given, and which stamp comes with it. "The interval is 1,000 to 10,000 [..]; outside that, refusal 1. Discretising a
--- reading to more than 1,000,000,000 is refusal 15. A refused discretising gives stamp 0."
-use Prim.Native.Nat.{ℕ, _/_, _<_}
-use mathlib.Core.Path.{_≡_, refl, sym, ap, subst}
+-- reading to more than 1,000,000,000 is refusal 15. A refused discretising gives stamp 0." Of either rounding.
+use Prim.Native.Nat.{ℕ, _+_, _/_, _<_}
+use mathlib.Core.Path.{_≡_, refl, sym, ap, subst, _∙_}
 use mathlib.Core.Bool.{Bool, true, false, cond}
 use mathlib.Core.Logic.{_↔_, _⊎_, inl, inr}
 use mathlib.Core.List.{List, [], _∷_}
 use native.Mathlib.Omega.{arith}
-use lib.Dec.{lit<, eqb}
+use native.Mathlib.Nat.{add-zero}
+use lib.Dec.{lit<, eqb, leb}
 use borrow.Author.Tests.{eqb-true, eqb-false}
 use Rattle.refusals.specs.Tests.{passed}
 use Rattle.refusals.specs.laws.Tests.{passed-done, done-passed}
 use Rattle.time.specs.declared.Micros.{Micros}
-use Rattle.time.specs.Discretising.{shortestInterval, longestInterval, lastStamp, wholePart, discretisingTests, discretised}
+use Rattle.time.specs.declared.Rounding.{Rounding}
+use Rattle.time.specs.declared.Rounding.the-variants.{Down, Nearest}
+use Rattle.time.specs.Discretising.{shortestInterval, longestInterval, lastStamp, wholePart, discretisingTests, discretisedBy}
 use Rattle.rows.specs.Exactly.{Row, Condition, NoneBefore, Tell, no-rows, also}
 use Rattle.rows.specs.laws.Exactly.{exactly, exactly-done}
-use Rattle.rows.specs.laws.Telling.{above, _or_}
+use Rattle.rows.specs.laws.Telling.{above, _or_, spelled}
 
--- for every reading and interval
-module _ (reading interval : Micros) where
+-- "DTS = whole part of reading ÷ interval"; to nearest, "half the interval, whole part, added before dividing" (§6 of 02)
+abbrev pub stampBy : Rounding → Micros → Micros → ℕ
+stampBy Down reading interval = reading .0 / interval .0
+stampBy Nearest reading interval = (reading .0 + interval .0 / 2) / interval .0
+
+same-stamp : (rounding : Rounding) (reading interval : Micros) → wholePart rounding reading interval ≡ stampBy rounding reading interval
+same-stamp Down reading interval = ap (λ (x : ℕ). x / interval .0) (add-zero (reading .0))
+same-stamp Nearest reading interval = refl
+
+-- for every rounding, reading and interval
+module _ (rounding : Rounding) (reading interval : Micros) where
   -- 1: "a bad interval"
   abbrev pub IntervalOutOfRange : Type 0
   IntervalOutOfRange = (interval .0 < 1_000) ⊎ (10_000 < interval .0)
 
   -- 15: "discretising to more than 1,000,000,000"
   abbrev pub StampOutOfRange : Type 0
-  StampOutOfRange = 1_000_000_000 < reading .0 / interval .0
+  StampOutOfRange = 1_000_000_000 < stampBy rounding reading interval
 
   abbrev pub AnsweredWith : ℕ → Type 0
-  AnsweredWith number = discretised reading interval .refusal ≡ number
+  AnsweredWith number = discretisedBy rounding reading interval .refusal ≡ number
 
   abbrev table : List Row
   table = (1, IntervalOutOfRange) ∷ (15, StampOutOfRange) ∷ []
 
-  rows-tell : Tell (discretisingTests reading interval) table
+  rows-tell : Tell (discretisingTests rounding reading interval) table
   rows-tell =
       also 1 (above shortestInterval (interval .0) or above (interval .0) longestInterval)
-      (also 15 (above (wholePart reading interval) lastStamp) no-rows)
+      (also 15 (spelled (ap (λ (s : ℕ). leb s lastStamp) (same-stamp rounding reading interval)) (above (stampBy rounding reading interval) lastStamp)) no-rows)
 
   told : (k : ℕ) → 0 < k → AnsweredWith k ↔ (NoneBefore k table × Condition k table)
-  unfolding discretised
+  unfolding discretisedBy
   told k pos = exactly rows-tell refl k pos
 
   -- Refusal 1 is given exactly for a bad interval,
@@ -51,7 +63,7 @@ module _ (reading interval : Micros) where
 
   -- and a reading is accepted exactly where neither holds.
   pub reading-accepted : AnsweredWith 0 ↔ ((IntervalOutOfRange → ⊥) × (StampOutOfRange → ⊥))
-  unfolding discretised
+  unfolding discretisedBy
   reading-accepted = (λ e. let x = exactly-done rows-tell refl .0 e in (x .0, x .1 .0), λ c. exactly-done rows-tell refl .1 (c .0, (c .1, tt)))
 
   -- No other number is ever given.
@@ -68,15 +80,16 @@ module _ (reading interval : Micros) where
           (subst (λ (z : Bool). cond z StampOutOfRange ⊥) ez
           (subst (λ (y : Bool). cond y IntervalOutOfRange (cond (eqb 15 number) StampOutOfRange ⊥)) ey (told number (omega (arith, not-zero)) .0 e .1)))
 
-  -- The stamp of an accepted reading is "whole part of reading ÷ interval", and that of a refused one is 0.
-  pub stamp-given : AnsweredWith 0 → discretised reading interval .stamp .0 ≡ reading .0 / interval .0
-  unfolding discretised
-  stamp-given e = ap (λ (x : Bool). cond x (wholePart reading interval) 0) (done-passed (discretisingTests reading interval) refl e)
+  -- The stamp of an accepted reading is that of its rounding, and that of a refused one is 0.
+  pub stamp-given : AnsweredWith 0 → discretisedBy rounding reading interval .stamp .0 ≡ stampBy rounding reading interval
+  unfolding discretisedBy
+  stamp-given e =
+      ap (λ (x : Bool). cond x (wholePart rounding reading interval) 0) (done-passed (discretisingTests rounding reading interval) refl e) ∙ same-stamp rounding reading interval
 
-  pub no-stamp : (AnsweredWith 0 → ⊥) → discretised reading interval .stamp .0 ≡ 0
-  unfolding discretised
-  no-stamp refused = go (passed (discretisingTests reading interval)) refl
+  pub no-stamp : (AnsweredWith 0 → ⊥) → discretisedBy rounding reading interval .stamp .0 ≡ 0
+  unfolding discretisedBy
+  no-stamp refused = go (passed (discretisingTests rounding reading interval)) refl
     where
-      go : (x : Bool) → passed (discretisingTests reading interval) ≡ x → cond x (wholePart reading interval) 0 ≡ 0
-      go true e = absurd (refused (passed-done (discretisingTests reading interval) e))
+      go : (x : Bool) → passed (discretisingTests rounding reading interval) ≡ x → cond x (wholePart rounding reading interval) 0 ≡ 0
+      go true e = absurd (refused (passed-done (discretisingTests rounding reading interval) e))
       go false e = refl

@@ -5,7 +5,7 @@ use mathlib.Core.List.{List, [], _∷_, _++_}
 use mathlib.Core.Option.{Option, none, some}
 use lib.Dec.{eqb}
 use Rattle.time.specs.declared.Dts.{Dts}
-use Rattle.time.specs.Fresh.{fresh}
+use Rattle.time.specs.Fresh.{fresh, freshOnes}
 use Rattle.senders.specs.Masks.{isIn}
 use Rattle.pairs.specs.declared.Pair.{Pair}
 use Rattle.pairs.specs.declared.Known.{Known}
@@ -132,11 +132,16 @@ oneOf kinds (a ∷ rest) = among (stepKind a) kinds || oneOf kinds rest
 abbrev pub runs : List Accepted → Bool
 runs rest = oneOf (report ∷ []) (life rest) && oneOf (ack ∷ query ∷ []) (life rest)
 
--- the shares of sender i that a step at node j brings it: those that it delivers and, where the sender is j itself, those that it makes.
--- "Own shares count at once as delivered." (A share that is not fresh is not delivered: refusal 7.)
+-- the fresh ones of the stamps that a step names, at the clock that it names
+abbrev pub freshNamed : Option Dts → List Dts → List Dts
+freshNamed (some t) stamps = freshOnes t stamps
+freshNamed none stamps = []
+
+-- the shares of sender i that a step at node j brings it: the fresh ones of those that it delivers and, where the sender is j itself, those that it makes.
+-- "Own shares count at once as delivered."
 abbrev pub brought : ℕ → ℕ → Accepted → List Pair
 brought i j a =
-    deliveredFrom i (named (a .step) .said .sender) (named (a .step) .said .status) (named (a .step) .said .stamps)
+    deliveredFrom i (named (a .step) .said .sender) (named (a .step) .said .status) (freshNamed (named (a .step) .clock) (named (a .step) .said .stamps))
     ++ cond (eqb i j) (listed (a .sent .shares)) []
 
 -- the shares of sender i that were delivered to node j since it began running

@@ -5,18 +5,19 @@ use mathlib.Core.Logic.{_⊎_}
 use mathlib.Core.List.{List, [], _∷_}
 use mathlib.Core.Option.{Option, some, none}
 use Rattle.time.specs.declared.Dts.{Dts}
+use Rattle.time.specs.Fresh.{next}
 use Rattle.steps.specs.declared.Beginning.{Beginning}
 use Rattle.steps.specs.declared.Event.{Event}
-use Rattle.steps.specs.declared.Event.the-variants.{Report, Deliver, ShareTimeout, ResendTimeout, Ack, Query}
+use Rattle.steps.specs.declared.Event.the-variants.{Report, Deliver, DeliverPair, ShareTimeout, ResendTimeout, Ack, Query}
 use Rattle.steps.specs.declared.Turn.{Turn}
 use Rattle.steps.specs.declared.Turn.the-variants.{Down, Up}
 use Rattle.steps.specs.declared.Act.{Act}
 use Rattle.steps.specs.declared.Step.{Step}
 use Rattle.steps.specs.declared.Step.the-variants.{Start, Tick, AtNode, Life, AtBreaker}
 
--- The steps of 01.
+-- The steps of 01, and "kind 12, a pair" (§6 of 02).
 pub data StepKind : Type 0 where
-  start tick report deliver shareTimeout resendTimeout command ack query down up : StepKind
+  start tick report deliver shareTimeout resendTimeout command ack query down up deliverPair : StepKind
   deriving Discrete as Kind-discrete
 
 -- The kind of a step and what it says: a status, stamps T, a sender, a state number, `back`. `none` where it says no such thing.
@@ -35,6 +36,9 @@ only kind = record { kind = kind; status = none; stamps = []; sender = none; num
 abbrev pub saidBy : Event → Said
 saidBy (Report status number) = record { kind = report; status = some status; stamps = []; sender = none; number = some number; back = none }
 saidBy (Deliver sender status T) = record { kind = deliver; status = some status; stamps = T ∷ []; sender = some sender; number = none; back = none }
+-- "a pair: sender, receiver, t, status, T, standing for T and T+1" (§6 of 02); for the last T of 32 bits, which refusal 2 turns away, `next` wraps
+saidBy (DeliverPair sender status T) =
+    record { kind = deliverPair; status = some status; stamps = T ∷ next T ∷ []; sender = some sender; number = none; back = none }
 saidBy ShareTimeout = only shareTimeout
 saidBy ResendTimeout = only resendTimeout
 saidBy (Ack back) = record { kind = ack; status = none; stamps = []; sender = none; number = none; back = some back }
@@ -95,6 +99,15 @@ abbrev pub OneOf : {A : Type 0} → List A → (A → Type 0) → Type 0
 OneOf [] P = ⊥
 OneOf (a ∷ others) P = P a ⊎ OneOf others P
 
+-- it names some, and each of them is as P says
+abbrev pub EachOf : {A : Type 0} → List A → (A → Type 0) → Type 0
+EachOf [] P = Unit {0}
+EachOf (a ∷ others) P = P a × EachOf others P
+
+abbrev pub AllOf : {A : Type 0} → List A → (A → Type 0) → Type 0
+AllOf [] P = ⊥
+AllOf (a ∷ others) P = P a × EachOf others P
+
 -- a test of what a step may name is passed by a step that does not name it
 abbrev pub ofNamed : {A : Type 0} → Option A → (A → Bool) → Bool
 ofNamed none p = true
@@ -103,3 +116,18 @@ ofNamed (some a) p = p a
 abbrev pub ofEach : {A : Type 0} → List A → (A → Bool) → Bool
 ofEach [] p = true
 ofEach (a ∷ others) p = p a && ofEach others p
+
+-- one of those that it names passes
+abbrev pub anyOf : {A : Type 0} → List A → (A → Bool) → Bool
+anyOf [] p = false
+anyOf (a ∷ others) p = p a || anyOf others p
+
+abbrev pub ofOne : {A : Type 0} → List A → (A → Bool) → Bool
+ofOne [] p = true
+ofOne (a ∷ others) p = p a || anyOf others p
+
+-- the first of those that it names, where they are more than one: T of a pair
+abbrev pub paired : {A : Type 0} → List A → Option A
+paired [] = none
+paired (a ∷ []) = none
+paired (a ∷ b ∷ others) = some a

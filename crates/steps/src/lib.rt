@@ -13,10 +13,11 @@ pub struct Beginning {
     pub g: Dts,
 }
 
-// What happens at a node, at its clock. A Deliver is at its receiver.
+// What happens at a node, at its clock. A Deliver is at its receiver, and so is a pair, which stands for the shares of two stamps: the one that it has and the next.
 pub enum Event {
     Report { status: u8, number: u32 },
     Deliver { sender: u8, status: u8, stamp: Dts },
+    DeliverPair { sender: u8, status: u8, stamp: Dts },
     ShareTimeout,
     ResendTimeout,
     Ack { back: u8 },

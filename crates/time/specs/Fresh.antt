@@ -1,6 +1,7 @@
 -- Fresh stamps, and the stamp after one.
 use Prim.Native.Nat.{ℕ, _+_, _-_, _%_, _^_}
-use mathlib.Core.Bool.{Bool, _&&_}
+use mathlib.Core.Bool.{Bool, _&&_, cond}
+use mathlib.Core.List.{List, [], _∷_}
 use lib.Dec.{leb}
 use Rattle.time.specs.declared.Dts.{Dts}
 
@@ -14,6 +15,11 @@ freshAt T t = leb (t - window) T && leb T (t + window)
 
 abbrev pub fresh : Dts → Dts → Bool
 fresh T t = freshAt (T .0) (t .0)
+
+-- "The fresh ones" of some stamps (§6 of 02)
+abbrev pub freshOnes : Dts → List Dts → List Dts
+freshOnes t [] = []
+freshOnes t (T ∷ more) = cond (fresh T t) (T ∷ freshOnes t more) (freshOnes t more)
 
 -- t + 1, in 32 bits
 unfoldable pub next : Dts → Dts

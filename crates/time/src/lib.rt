@@ -1,6 +1,6 @@
 // Clock readings in microseconds, discretised time stamps (DTS), and what is asked of them.
 ghost use mathlib.Core.Path.{_≡_};
-ghost use Rattle.time.specs.Discretising.{refusedReading, discretised, defaultInterval};
+ghost use Rattle.time.specs.Discretising.{added, refusedReading, discretisedBy, discretised, defaultInterval};
 ghost use Rattle.time.specs.Fresh.{fresh, next};
 ghost use Rattle.time.specs.Larger.{larger};
 ghost use Rattle.time.specs.Newer.{newer};
@@ -10,6 +10,12 @@ pub struct Micros(pub u64);
 
 // A discretised time stamp.
 pub struct Dts(pub u32);
+
+// How a reading becomes a whole number of intervals.
+pub enum Rounding {
+    Down,
+    Nearest,
+}
 
 pub const SHORTEST_INTERVAL: u64 = 1000;
 
@@ -42,8 +48,19 @@ fn refused(number: u8) -> Discretised
     }
 }
 
-pub fn discretise(reading: Micros, interval: Micros) -> Discretised
-    ensures { λ out. ⌜ out ≡ discretised reading interval ⌝ }
+// What a rounding adds before it divides.
+fn added(rounding: Rounding, width: u64) -> u64
+    ensures { λ out. ⌜ out ≡ added rounding width ⌝ }
+{
+    match rounding {
+        Rounding::Down => 0,
+        Rounding::Nearest => width / 2,
+    }
+}
+
+// A reading with what is added may have more than 64 bits: it is divided first, and the remainder is rounded.
+pub fn discretise_by(rounding: Rounding, reading: Micros, interval: Micros) -> Discretised
+    ensures { λ out. ⌜ out ≡ discretisedBy rounding reading interval ⌝ }
 {
     let width = interval.0;
     if width < SHORTEST_INTERVAL {
@@ -52,7 +69,9 @@ pub fn discretise(reading: Micros, interval: Micros) -> Discretised
     if LONGEST_INTERVAL < width {
         return refused(1);
     }
-    let stamp = reading.0 / width;
+    let reading = reading.0;
+    let more = added(rounding, width);
+    let stamp = reading / width + (reading % width + more) / width;
     if LAST_STAMP < stamp {
         return refused(15);
     }
@@ -62,7 +81,14 @@ pub fn discretise(reading: Micros, interval: Micros) -> Discretised
     }
 }
 
-// For whoever names no interval.
+// For whoever names no rounding: down.
+pub fn discretise(reading: Micros, interval: Micros) -> Discretised
+    ensures { λ out. ⌜ out ≡ discretised reading interval ⌝ }
+{
+    discretise_by(Rounding::Down, reading, interval)
+}
+
+// For whoever names no interval either.
 pub fn discretise_by_default(reading: Micros) -> Discretised
     ensures { λ out. ⌜ out ≡ discretised reading defaultInterval ⌝ }
 {

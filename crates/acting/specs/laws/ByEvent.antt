@@ -28,7 +28,7 @@ use Rattle.events.specs.laws.ReportLaws.{entersBy, report-shares}
 use Rattle.breaker.specs.declared.Breaker.{Breaker}
 use Rattle.breaker.specs.Breaker.{changeAt}
 use Rattle.steps.specs.declared.Event.{Event}
-use Rattle.steps.specs.declared.Event.the-variants.{Report, Deliver, ShareTimeout, ResendTimeout, Ack, Query}
+use Rattle.steps.specs.declared.Event.the-variants.{Report, Deliver, DeliverPair, ShareTimeout, ResendTimeout, Ack, Query}
 use Rattle.steps.specs.Named.{report, resendTimeout, ack, query, saidBy, isKind, among, Of, ofNamed}
 use Rattle.acting.specs.Acting.{ackedBy, changedBy, stored}
 
@@ -225,6 +225,8 @@ left-by breaker p t (Report status number) =
     }
 left-by breaker p t (Deliver sender status T) =
     record { of-phase = same-phase breaker t (Deliver sender status T) refl refl refl; of-shares = no-shares refl; of-store = λ s. refl; unsent-or-kept = inr refl }
+left-by breaker p t (DeliverPair sender status T) =
+    record { of-phase = same-phase breaker t (DeliverPair sender status T) refl refl refl; of-shares = no-shares refl; of-store = λ s. refl; unsent-or-kept = inr refl }
 left-by breaker p t ShareTimeout =
     record { of-phase = same-phase breaker t ShareTimeout refl refl (share-phase p t); of-shares = timeout-left t p; of-store = λ s. refl; unsent-or-kept = inl refl }
 left-by breaker p t ResendTimeout =

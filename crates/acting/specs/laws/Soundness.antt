@@ -19,7 +19,7 @@ use Rattle.pairs.specs.declared.Pair.{Pair}
 use Rattle.pairs.specs.declared.Known.{Known}
 use Rattle.pairs.specs.declared.Known.the-variants.{Yes, No}
 use Rattle.steps.specs.declared.Event.{Event}
-use Rattle.steps.specs.declared.Event.the-variants.{Report, Deliver, ShareTimeout, ResendTimeout, Ack, Query}
+use Rattle.steps.specs.declared.Event.the-variants.{Report, Deliver, DeliverPair, ShareTimeout, ResendTimeout, Ack, Query}
 use Rattle.steps.specs.Named.{saidBy}
 use Rattle.steps.specs.laws.Naming.{IfNamed}
 use Rattle.node.specs.declared.Phase.{Phase}
@@ -51,6 +51,7 @@ pub sound-by : (breaker : Breaker) (p : Phase) (t : Dts) (event : Event) → bre
 unfolding changedBy
 sound-by breaker p t (Report status number) of-breaker l s = report-sound p t status number l s
 sound-by breaker p t (Deliver sender status T) of-breaker l s = s
+sound-by breaker p t (DeliverPair sender status T) of-breaker l s = s
 sound-by breaker p t ShareTimeout of-breaker l s = share-sound p t s
 sound-by breaker p t ResendTimeout of-breaker l s = resend-sound p t s
 sound-by breaker p t (Ack back) of-breaker l s =
@@ -68,6 +69,7 @@ pub follows-by : (breaker : Breaker) (p : Phase) (t : Dts) (event : Event) → F
 unfolding changedBy
 follows-by breaker p t (Report status number) l = report-follows p t status number l
 follows-by breaker p t (Deliver sender status T) l = l
+follows-by breaker p t (DeliverPair sender status T) l = l
 follows-by breaker p t ShareTimeout l = share-follows p t l
 follows-by breaker p t ResendTimeout l = resend-follows p t l
 follows-by breaker p t (Ack back) l = acked-follows p (changeAt breaker back) l

@@ -7,14 +7,14 @@ use mathlib.Core.List.{List, [], _∷_, _++_}
 use mathlib.Core.Option.{Option, none, some}
 use lib.Dec.{eqb}
 use Rattle.time.specs.declared.Dts.{Dts}
-use Rattle.time.specs.Fresh.{fresh}
+use Rattle.time.specs.Fresh.{fresh, freshOnes}
 use Rattle.time.specs.laws.Fresh.{latestClock, fresh-same}
 use Rattle.senders.specs.Masks.{room}
 use Rattle.store.specs.declared.Store.{Store}
 use Rattle.store.specs.Store.{empty, movedTo}
 use Rattle.store.specs.Held.{held}
-use Rattle.store.specs.laws.Held.{clock-put}
-use Rattle.store.specs.laws.HeldLaws.{takes-near, held-taken, clock-at}
+use Rattle.store.specs.laws.Held.{clock-put, held-put}
+use Rattle.store.specs.laws.HeldLaws.{room-if-fresh, clock-at}
 use Rattle.pairs.specs.declared.Pair.{Pair}
 use Rattle.pairs.specs.declared.Pairs.{Pairs}
 use Rattle.pairs.specs.Pair.{listed, has}
@@ -33,7 +33,7 @@ use Rattle.combining.specs.laws.OwnLaws.{has-append, has-cond, Near, near-fresh
 use Rattle.breaker.specs.declared.Breaker.{Breaker}
 use Rattle.steps.specs.declared.Event.{Event}
 use Rattle.steps.specs.Named.{saidBy}
-use Rattle.steps.specs.laws.Naming.{IfNamed, EachOf}
+use Rattle.steps.specs.laws.Naming.{IfNamed}
 use Rattle.acting.specs.Acting.{changedBy, stored, acted}
 use Rattle.acting.specs.laws.ByEvent.{putEach, putFrom, left-by}
 use Rattle.acting.specs.laws.Relay.{statusIn, relayAfter}
@@ -41,26 +41,25 @@ use Rattle.acting.specs.laws.Shares.{IsAction, shares-near, starting-sha
 
 -- ---- what an event brings
 
--- the shares of sender k that an event delivers
-abbrev pub deliveredBy : Event → ℕ → List Pair
-deliveredBy event k = deliveredFrom k (saidBy event .sender) (saidBy event .status) (saidBy event .stamps)
+-- the shares of sender k that an event at clock t delivers: the fresh ones of those that it names
+abbrev pub deliveredBy : Dts → Event → ℕ → List Pair
+deliveredBy t event k = deliveredFrom k (saidBy event .sender) (saidBy event .status) (freshOnes t (saidBy event .stamps))
 
 -- the shares of sender k that an event at node i brings it: those that it delivers and, where the sender is i itself, those that it makes
-abbrev pub broughtBy : Event → ℕ → ℕ → Pairs → List Pair
-broughtBy event k i shares = deliveredBy event k ++ cond (eqb k i) (listed shares) []
+abbrev pub broughtBy : Dts → Event → ℕ → ℕ → Pairs → List Pair
+broughtBy t event k i shares = deliveredBy t event k ++ cond (eqb k i) (listed shares) []
 
--- what an event names is of a sender and an action that there are, and each stamp is fresh
-abbrev pub Delivers : Dts → Event → Type 0
-Delivers t event =
-    IfNamed (saidBy event .sender) (λ k. k < room) × IfNamed (saidBy event .status) (λ A. A ≤ 1) × EachOf (saidBy event .stamps) (λ T. fresh T t ≡ true)
+-- what an event names is of a sender and an action that there are
+abbrev pub Delivers : Event → Type 0
+Delivers event = IfNamed (saidBy event .sender) (λ k. k < room) × IfNamed (saidBy event .status) (λ A. A ≤ 1)
 
-has-brought : (event : Event) (k i : ℕ) (shares : Pairs) (A : ℕ) (T : Dts)
-    → has (broughtBy event k i shares) A T ≡ (has (deliveredBy event k) A T || (eqb k i && has (listed shares) A T))
-has-brought event k i shares A T =
-    has-append (deliveredBy event k) (cond (eqb k i) (listed shares) []) A T
-    ∙ ap (λ (x : Bool). has (deliveredBy event k) A T || x) (has-cond (eqb k i) (listed shares) A T)
+has-brought : (t : Dts) (event : Event) (k i : ℕ) (shares : Pairs) (A : ℕ) (T : Dts)
+    → has (broughtBy t event k i shares) A T ≡ (has (deliveredBy t event k) A T || (eqb k i && has (listed shares) A T))
+has-brought t event k i shares A T =
+    has-append (deliveredBy t event k) (cond (eqb k i) (listed shares) []) A T
+    ∙ ap (λ (x : Bool). has (deliveredBy t event k) A T || x) (has-cond (eqb k i) (listed shares) A T)
 
--- ---- shares that are put as an event names them
+-- ---- shares that are put as an event names them: the fresh ones are then held
 
 module _ (s : Store) where
   clock-each : (sender B : ℕ) (stamps : List Dts) → putEach s sender B stamps .clock ≡ s .clock
@@ -73,18 +72,19 @@ module _ (s : Store) where
   clock-from none status stamps = refl
 
   module _ (A : ℕ) (T : Dts) (k : ℕ) where
-    held-each : (sender B : ℕ) (stamps : List Dts) → sender < room → B ≤ 1 → EachOf stamps (λ U. fresh U (s .clock) ≡ true)
-        → held (putEach s sender B stamps) A T k ≡ (eqb k sender && has (sharesAt B stamps) A T || held s A T k)
-    held-each sender B [] l a near = none-put (eqb k sender)
+    held-each : (sender B : ℕ) (stamps : List Dts) → sender < room → B ≤ 1
+        → held (putEach s sender B stamps) A T k ≡ (eqb k sender && has (sharesAt B (freshOnes (s .clock) stamps)) A T || held s A T k)
+    held-each sender B [] l a = none-put (eqb k sender)
       where
         none-put : (x : Bool) → held s A T k ≡ (x && false || held s A T k)
         none-put true = refl
         none-put false = refl
-    held-each sender B (U ∷ more) l a near =
-        held-taken (putEach s sender B more) sender B U A T k
-        (takes-near (putEach s sender B more) sender B U l a (subst (λ (c : Dts). fresh U c ≡ true) (sym (clock-each sender B more)) (near .0)))
-        ∙ ap (λ (x : Bool). eqb A B && eqb (T .0) (U .0) && eqb k sender || x) (held-each sender B more l a (near .1))
-        ∙ tidy (eqb A B && eqb (T .0) (U .0)) (eqb k sender) (has (sharesAt B more) A T) (held s A T k)
+    held-each sender B (U ∷ more) l a =
+        held-put (putEach s sender B more) sender B U A T k
+        ∙ ap (λ (x : Bool). x && (eqb A B && eqb (T .0) (U .0)) && eqb k sender || held (putEach s sender B more) A T k)
+        (room-if-fresh (putEach s sender B more) sender B U l a ∙ ap (λ (c : Dts). fresh U c) (clock-each sender B more))
+        ∙ ap (λ (x : Bool). fresh U (s .clock) && (eqb A B && eqb (T .0) (U .0)) && eqb k sender || x) (held-each sender B more l a)
+        ∙ one-more (fresh U (s .clock)) (freshOnes (s .clock) more)
       where
         tidy : (x y z h : Bool) → (x && y || (y && z || h)) ≡ (y && (x || z) || h)
         tidy true true z h = refl
@@ -92,31 +92,46 @@ module _ (s : Store) where
         tidy false true z h = refl
         tidy false false z h = refl
 
+        one-more : (w : Bool) (others : List Dts)
+            → (w && (eqb A B && eqb (T .0) (U .0)) && eqb k sender || (eqb k sender && has (sharesAt B others) A T || held s A T k))
+            ≡ (eqb k sender && has (sharesAt B (cond w (U ∷ others) others)) A T || held s A T k)
+        one-more true others = tidy (eqb A B && eqb (T .0) (U .0)) (eqb k sender) (has (sharesAt B others) A T) (held s A T k)
+        one-more false others = refl
+
     held-from : (sender status : Option ℕ) (stamps : List Dts) → IfNamed sender (λ i. i < room) → IfNamed status (λ B. B ≤ 1)
-        → EachOf stamps (λ U. fresh U (s .clock) ≡ true)
-        → held (putFrom s sender status stamps) A T k ≡ (has (deliveredFrom k sender status stamps) A T || held s A T k)
-    held-from (some sender) (some B) stamps l a near =
-        held-each sender B stamps l a near ∙ ap (λ (x : Bool). x || held s A T k) (sym (has-cond (eqb k sender) (sharesAt B stamps) A T))
-    held-from (some sender) none stamps l a near = refl
-    held-from none status stamps l a near = refl
+        → held (putFrom s sender status stamps) A T k ≡ (has (deliveredFrom k sender status (freshOnes (s .clock) stamps)) A T || held s A T k)
+    held-from (some sender) (some B) stamps l a =
+        held-each sender B stamps l a
+        ∙ ap (λ (x : Bool). x || held s A T k) (sym (has-cond (eqb k sender) (sharesAt B (freshOnes (s .clock) stamps)) A T))
+    held-from (some sender) none stamps l a = refl
+    held-from none status stamps l a = refl
 
--- they are fresh if their stamps are
+-- the fresh ones are fresh
 module _ (t : Dts) (A : ℕ) (T : Dts) where
-  fresh-each : (B : ℕ) (stamps : List Dts) → EachOf stamps (λ U. fresh U t ≡ true) → has (sharesAt B stamps) A T ≡ true → fresh T t ≡ true
-  fresh-each B [] near e = absurd (false≢true e)
-  fresh-each B (U ∷ more) near e = go (eqb A B && eqb (T .0) (U .0)) refl (fresh-each B more (near .1)) e
+  fresh-each : (B : ℕ) (stamps : List Dts) → has (sharesAt B (freshOnes t stamps)) A T ≡ true → fresh T t ≡ true
+  fresh-each B [] e = absurd (false≢true e)
+  fresh-each B (U ∷ more) e = go (fresh U t) refl (fresh-each B more) e
     where
-      go : (x : Bool) → (eqb A B && eqb (T .0) (U .0)) ≡ x → (has (sharesAt B more) A T ≡ true → fresh T t ≡ true)
-          → (x || has (sharesAt B more) A T) ≡ true → fresh T t ≡ true
-      go true ex rest e = fresh-same T U t (and-eq-true-iff (eqb A B) (eqb (T .0) (U .0)) .0 ex .1) (near .0)
-      go false ex rest e = rest e
+      others : List Dts
+      others = freshOnes t more
 
-  fresh-from : (k : ℕ) (sender status : Option ℕ) (stamps : List Dts) → EachOf stamps (λ U. fresh U t ≡ true)
-      → has (deliveredFrom k sender status stamps) A T ≡ true → fresh T t ≡ true
-  fresh-from k (some sender) (some B) stamps near e =
-      fresh-each B stamps near (and-eq-true-iff (eqb k sender) (has (sharesAt B stamps) A T) .0 (sym (has-cond (eqb k sender) (sharesAt B stamps) A T) ∙ e) .1)
-  fresh-from k (some sender) none stamps near e = absurd (false≢true e)
-  fresh-from k none status stamps near e = absurd (false≢true e)
+      Rest : Type 0
+      Rest = has (sharesAt B others) A T ≡ true → fresh T t ≡ true
+
+      first : fresh U t ≡ true → Rest → (x : Bool) → (eqb A B && eqb (T .0) (U .0)) ≡ x → (x || has (sharesAt B others) A T) ≡ true → fresh T t ≡ true
+      first near rest true ex e = fresh-same T U t (and-eq-true-iff (eqb A B) (eqb (T .0) (U .0)) .0 ex .1) near
+      first near rest false ex e = rest e
+
+      go : (w : Bool) → fresh U t ≡ w → Rest → has (sharesAt B (cond w (U ∷ others) others)) A T ≡ true → fresh T t ≡ true
+      go true near rest e = first near rest (eqb A B && eqb (T .0) (U .0)) refl e
+      go false near rest e = rest e
+
+  fresh-from : (k : ℕ) (sender status : Option ℕ) (stamps : List Dts) → has (deliveredFrom k sender status (freshOnes t stamps)) A T ≡ true → fresh T t ≡ true
+  fresh-from k (some sender) (some B) stamps e =
+      fresh-each B stamps
+      (and-eq-true-iff (eqb k sender) (has (sharesAt B (freshOnes t stamps)) A T) .0 (sym (has-cond (eqb k sender) (sharesAt B (freshOnes t stamps)) A T) ∙ e) .1)
+  fresh-from k (some sender) none stamps e = absurd (false≢true e)
+  fresh-from k none status stamps e = absurd (false≢true e)
 
 -- ---- a running node
 
@@ -131,16 +146,16 @@ module _ (breaker : Breaker) (rec : Record) (s : Store) (t : Dts) (event : Event
       ∙ clock-at s t l
 
   -- a delivered share is held, beside what is still fresh of what was held
-  pub held-stored : (A : ℕ) (T : Dts) (k : ℕ) → Delivers t event
-      → held (stored (Running rec) s t event) A T k ≡ (has (deliveredBy event k) A T || held (movedTo s t) A T k)
+  pub held-stored : (A : ℕ) (T : Dts) (k : ℕ) → Delivers event
+      → held (stored (Running rec) s t event) A T k ≡ (has (deliveredBy t event k) A T || held (movedTo s t) A T k)
   held-stored A T k d =
       ap (λ (x : Store). held x A T k) as-named
       ∙ held-from (movedTo s t) A T k (saidBy event .sender) (saidBy event .status) (saidBy event .stamps) (d .0) (d .1)
-      (subst (λ (c : Dts). EachOf (saidBy event .stamps) (λ U. fresh U c ≡ true)) (sym (clock-at s t l)) (d .2))
+      ∙ ap (λ (c : Dts). has (deliveredBy c event k) A T || held (movedTo s t) A T k) (clock-at s t l)
 
 module _
     (breaker : Breaker) (rec : Record) (s : Store) (i f : ℕ) (t : Dts) (event : Event)
-    (l : s .clock .0 ≤ t .0) (m : t .0 ≤ latestClock) (d : Delivers t event) (a : IsAction (relayAfter event (statusIn (knownR (Running rec)))))
+    (l : s .clock .0 ≤ t .0) (m : t .0 ≤ latestClock) (d : Delivers event) (a : IsAction (relayAfter event (statusIn (knownR (Running rec)))))
   where
     abbrev after : Acted
     after = acted breaker (record { phase = Running rec; store = s }) i f t event
@@ -155,13 +170,13 @@ module _
 
     -- and holds what the event brought, beside what is still fresh of what was held
     pub held-after : i < room → (A : ℕ) (T : Dts) (k : ℕ)
-        → held (after .node .store) A T k ≡ (has (broughtBy event k i (after .shares)) A T || held (movedTo s t) A T k)
+        → held (after .node .store) A T k ≡ (has (broughtBy t event k i (after .shares)) A T || held (movedTo s t) A T k)
     unfolding acted finished
     held-after room-for A T k =
         held-all (stored (Running rec) s t event) i shares A T k room-for (subst (λ (c : Dts). Near c shares) (sym (stored-clock breaker rec s t event l)) near)
         ∙ ap (λ (x : Bool). eqb k i && has (listed shares) A T || x) (held-stored breaker rec s t event l A T k d)
-        ∙ swap (eqb k i && has (listed shares) A T) (has (deliveredBy event k) A T) (held (movedTo s t) A T k)
-        ∙ ap (λ (x : Bool). x || held (movedTo s t) A T k) (sym (has-brought event k i shares A T))
+        ∙ swap (eqb k i && has (listed shares) A T) (has (deliveredBy t event k) A T) (held (movedTo s t) A T k)
+        ∙ ap (λ (x : Bool). x || held (movedTo s t) A T k) (sym (has-brought t event k i shares A T))
       where
         shares : Pairs
         shares = changedBy breaker (Running rec) t event .shares
@@ -173,15 +188,15 @@ module _
         swap false false z = refl
 
     -- all that is brought is fresh
-    pub brought-fresh : (A : ℕ) (T : Dts) (k : ℕ) → has (broughtBy event k i (after .shares)) A T ≡ true → fresh T t ≡ true
+    pub brought-fresh : (A : ℕ) (T : Dts) (k : ℕ) → has (broughtBy t event k i (after .shares)) A T ≡ true → fresh T t ≡ true
     unfolding acted finished
-    brought-fresh A T k e = go (has (deliveredBy event k) A T) refl (sym (has-brought event k i shares A T) ∙ e)
+    brought-fresh A T k e = go (has (deliveredBy t event k) A T) refl (sym (has-brought t event k i shares A T) ∙ e)
       where
         shares : Pairs
         shares = changedBy breaker (Running rec) t event .shares
 
-        go : (x : Bool) → has (deliveredBy event k) A T ≡ x → (x || (eqb k i && has (listed shares) A T)) ≡ true → fresh T t ≡ true
-        go true ex e = fresh-from t A T k (saidBy event .sender) (saidBy event .status) (saidBy event .stamps) (d .2) ex
+        go : (x : Bool) → has (deliveredBy t event k) A T ≡ x → (x || (eqb k i && has (listed shares) A T)) ≡ true → fresh T t ≡ true
+        go true ex e = fresh-from t A T k (saidBy event .sender) (saidBy event .status) (saidBy event .stamps) ex
         go false ex e = near-fresh t shares A T near (and-eq-true-iff (eqb k i) (has (listed shares) A T) .0 e .1)
 
 -- ---- a node that begins to run: "its store empty"

@@ -1,15 +1,15 @@
 -- What the tests of an accepted step say. A step that 01's site has too passes the tests that it has there, so all that is known of 01's accepted steps is known of
 -- it; what is left is what an accepted message has found.
 use Prim.Native.Nat.{ℕ, _≤_, _<_}
-use mathlib.Core.Path.{_≡_, refl, sym, subst}
-use mathlib.Core.Bool.{Bool, true, false, _&&_, cond, and-eq-true-iff}
+use mathlib.Core.Path.{_≡_, refl, sym, subst, _∙_}
+use mathlib.Core.Bool.{Bool, true, false, not, _&&_, _||_, cond, false≢true, and-eq-true-iff}
 use mathlib.Core.List.{List, _∷_}
 use mathlib.Core.Option.{Option, none, some}
 use native.Mathlib.Omega.{arith}
 use borrow.Author.Tests.{ltb-true, leb-true}
 use Rattle.refusals.specs.Tests.{Test, refusal, numbered, testAt}
 use Rattle.refusals.specs.laws.Tests.{each-passed}
-use Rattle.refusals.specs.laws.Bools.{left, right}
+use Rattle.refusals.specs.laws.Bools.{left, right, or-false}
 use Rattle.time.specs.declared.Dts.{Dts}
 use Rattle.time.specs.Fresh.{fresh}
 use Rattle.time.specs.laws.Fresh.{latestClock}
@@ -114,17 +114,23 @@ pub record Heard (a : Arbiter) (t : Dts) (m : Message) : Type 0 where
   pub is-fresh : fresh (m .stamp) t ≡ true
   pub vouched : canDeliver (a .site) (m .sender) (m .status) (m .stamp) ≡ true
 
+-- a share that is fresh was made
+made : (fresh can : Bool) → fresh ≡ true → (not fresh || can) ≡ true → can ≡ true
+made true can f e = e
+made false can f e = absurd (false≢true f)
+
 pub hears : (a : Arbiter) (lent : ℕ) (voter : Voter) (t : Dts) (m : Message) → Passes a lent voter (AtBreaker t m) → Heard a t m
 hears a lent voter t m e =
     let row : (k : ℕ) → testAt k (tableFor a lent voter (named (AtBreaker t m))) ≡ true = λ k. row-passed a lent voter (AtBreaker t m) k e in
     let whole = sound (a .site) lent (peer-sound a lent (left (arbiterSound a lent) true (row 16))) in
     let below : m .sender < n (a .site) = ltb-true _ _ (left (isNode (a .site) (m .sender)) _ (row 2)) in
+    let near : fresh (m .stamp) t ≡ true = sym (or-false (fresh (m .stamp) t)) ∙ row 7 in
     record {
       is-node = below;
       has-room = room-for (a .site) lent whole (m .sender) below;
       is-status = leb-true _ _ (left (isStatus (m .status)) true (right (isNode (a .site) (m .sender)) _ (row 2)));
       not-late = timely (a .site) t (whole .last-g) (row 5);
       not-back = leb-true _ _ (row 6);
-      is-fresh = left (fresh (m .stamp) t) true (row 7);
-      vouched = left (canDeliver (a .site) (m .sender) (m .status) (m .stamp)) true (left _ true (row 8));
+      is-fresh = near;
+      vouched = made (fresh (m .stamp) t) _ near (left _ true (left _ true (row 8)));
     }

@@ -2,10 +2,10 @@
 use Prim.Native.Nat.{ℕ}
 use mathlib.Core.Path.{_≡_, refl, sym, ap, ap₂, _∙_}
 use mathlib.Core.Bool.{Bool, true, _&&_}
-use mathlib.Core.List.{List, [], _∷_, _++_}
+use mathlib.Core.List.{List, [], _∷_}
 use lib.Dec.{leb}
 use Rattle.refusals.specs.Tests.{Test, refusal}
-use Rattle.refusals.specs.laws.Bools.{and-true}
+use Rattle.refusals.specs.laws.Bools.{and-true, or-false}
 use Rattle.time.specs.declared.Dts.{Dts}
 use Rattle.steps.specs.declared.Beginning.{Beginning}
 use Rattle.steps.specs.declared.Turn.{Turn}
@@ -15,10 +15,9 @@ use Rattle.node.specs.declared.Node.{Node}
 use Rattle.site.specs.declared.Site.{Site}
 use Rattle.site.specs.Site.{actorSound}
 use Rattle.refusing.specs.Tests.{isNow, isNode, isStatus, canBegin, rowsFor}
-use Rattle.refusing.specs.laws.Parts.{shareTests, tickTests, soundTests, sixteen-first, rest-event, rest-turn, rest-tick}
+use Rattle.refusing.specs.laws.Parts.{shareTests, tickTests, soundTests, sixteen-first, if-fresh, rest-event, rest-turn, rest-tick}
 use Rattle.arbiter_steps.specs.declared.Event.{Event}
 use Rattle.arbiter_steps.specs.declared.Message.{Message}
-use Rattle.arbiter_steps.specs.declared.Step.{Step}
 use Rattle.arbiter_steps.specs.declared.Step.the-variants.{Start, Tick, AtNode, Life, AtBreaker}
 use Rattle.arbiter_steps.specs.Steps as Steps
 use Rattle.arbiter_node.specs.declared.Voter.{Voter}
@@ -56,7 +55,7 @@ module _ (a : Arbiter) (lent : ℕ) (voter : Voter) (sound : Bool) where
 
   rest-message : (t : Dts) (m : Message) → refusal (messageTests (a .site) t m) ≡ refusal (rowsFor (a .site) lent (inPeer voter) (Steps.named (AtBreaker t m)))
   unfolding refusal
-  rest-message t m = simp and-true
+  rest-message t m = simp (and-true, or-false, if-fresh)
 
   pub cut-message : (t : Dts) (m : Message) → sound ≡ arbiterSound a lent → refusal ((16, sound) ∷ messageTests (a .site) t m) ≡ refusal (testsOf a lent voter (AtBreaker t m))
   unfolding testsOf

@@ -48,10 +48,10 @@ first-requires-3 : tie.Need-first-requires-3
 first-requires-3 c κs = search needs
 
 returns : tie.Need-returns
-returns c = rw (c .before .before .before .before .before .before .enum-told .given .1) (simp (appended, c .first2 .ensures, c .before .first .ensures, c .before .before .test2 .ensures, c .before .before .before .before .how-many .ensures, c .before .before .before .before .before .who .ensures, c .before .before .before .before .before .before .before .before .test .ensures, c .before .before .before .before .before .before .before .before .before .is-down .ensures, taken (c .before .before .before .before .before .before .before .before .before .before .args .node) .6))
+returns c = rw (c .before .before .before .before .before .before .enum-told .given .1) (simp (appended, c .first2 .ensures, c .before .first .ensures, c .before .before .test2 .ensures, c .before .before .before .before .how-many .ensures, c .before .before .before .before .before .who .ensures, c .before .before .before .before .before .before .before .before .test .ensures, c .before .before .before .before .before .before .before .before .before .is-down .ensures, taken (c .before .before .before .before .before .before .before .before .before .before .args .node) .7))
 
 returns-2 : tie.Need-returns-2
-returns-2 c = rw (c .before .before .enum-told2 .given .1) (simp (appended, c .first3 .ensures, c .before .who2 .ensures, c .before .before .before .before .test .ensures, c .before .before .before .before .before .is-down .ensures, taken (c .before .before .before .before .before .before .args .node) .7))
+returns-2 c = rw (c .before .before .enum-told2 .given .1) (simp (appended, c .first3 .ensures, c .before .who2 .ensures, c .before .before .before .before .test .ensures, c .before .before .before .before .before .is-down .ensures, taken (c .before .before .before .before .before .before .args .node) .8))
 
 pub refuse-turn-spec : {M : Type 1} → statement M
 refuse-turn-spec =

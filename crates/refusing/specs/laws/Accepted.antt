@@ -1,13 +1,13 @@
 -- What the tests of an accepted step say: each row of the table by its number, and the rows that steps of one shape have in common.
 use Prim.Native.Nat.{ℕ, _+_, _≤_, _<_}
-use mathlib.Core.Path.{_≡_, refl}
+use mathlib.Core.Path.{_≡_, refl, sym, _∙_}
 use mathlib.Core.Bool.{Bool, true, false, not, _&&_, _||_}
 use native.Mathlib.Omega.{arith}
 use lib.Dec.{eqb, leb}
 use borrow.Author.Tests.{ltb-true, leb-true, eqb-true, eqb-false, not-true}
 use Rattle.refusals.specs.Tests.{refusal, numbered, testAt}
 use Rattle.refusals.specs.laws.Tests.{each-passed}
-use Rattle.refusals.specs.laws.Bools.{left, right}
+use Rattle.refusals.specs.laws.Bools.{left, right, or-false}
 use Rattle.time.specs.declared.Dts.{Dts}
 use Rattle.time.specs.Fresh.{fresh}
 use Rattle.time.specs.laws.Fresh.{latestClock}
@@ -18,7 +18,7 @@ use Rattle.steps.specs.declared.Turn.{Turn}
 use Rattle.steps.specs.declared.Act.{Act}
 use Rattle.steps.specs.declared.Step.{Step}
 use Rattle.steps.specs.declared.Step.the-variants.{Start, Tick, AtNode, Life, AtBreaker}
-use Rattle.steps.specs.Named.{named, saidBy, saidByTurn}
+use Rattle.steps.specs.Named.{named, saidBy, saidByTurn, ofNamed}
 use Rattle.node.specs.declared.Node.{Node}
 use Rattle.node.specs.Asked.{phaseDown}
 use Rattle.site.specs.declared.Site.{Site}
@@ -130,7 +130,9 @@ timely site t last b = go (eqb (t .0) (g site .0)) refl b
 -- an event at a node: rows 16 and 2 to 6
 pub record Happens (site : Site) (lent : ℕ) (node : Node) (i : ℕ) (t : Dts) (event : Event) : Type 0 where
   pub place : Placed site lent i
-  pub in-range : areInRange site (saidBy event) ≡ true
+  pub of-sender : ofNamed (saidBy event .sender) (isNode site) ≡ true
+  pub of-status : ofNamed (saidBy event .status) isStatus ≡ true
+  pub of-back : ofNamed (saidBy event .back) (λ back. leb back 7) ≡ true
   pub is-up : not (phaseDown (node .phase)) ≡ true
   pub not-late : t .0 ≤ latestClock
   pub not-back : nodeClock node .0 ≤ t .0
@@ -138,9 +140,13 @@ pub record Happens (site : Site) (lent : ℕ) (node : Node) (i : ℕ) (t : Dts) 
 pub happens : (site : Site) (lent : ℕ) (node : Node) (i : ℕ) (t : Dts) (event : Event) → Passes site lent node (AtNode i t event) → Happens site lent node i t event
 happens site lent node i t event e =
     let place = placed site lent node i (areInRange site (saidBy event)) (row-passed site lent node (AtNode i t event) 16 e) (row-passed site lent node (AtNode i t event) 2 e) (row-passed site lent node (AtNode i t event) 3 e) in
+    let range = right (isNode site i) _ (row-passed site lent node (AtNode i t event) 2 e) in
+    let after-sender = right (ofNamed (saidBy event .sender) (isNode site)) _ range in
     record {
       place = place;
-      in-range = right (isNode site i) _ (row-passed site lent node (AtNode i t event) 2 e);
+      of-sender = left _ _ range;
+      of-status = left _ _ after-sender;
+      of-back = left _ _ (right (ofNamed (saidBy event .status) isStatus) _ after-sender);
       is-up = not-down (node .phase) event (row-passed site lent node (AtNode i t event) 4 e);
       not-late = timely site t (place .whole .last-g) (row-passed site lent node (AtNode i t event) 5 e);
       not-back = leb-true _ _ (row-passed site lent node (AtNode i t event) 6 e);
@@ -171,5 +177,5 @@ at-breaker site lent node t act e =
       is-status = leb-true _ _ (left (isStatus (act .status)) true (row-passed site lent node (AtBreaker t act) 2 e));
       not-late =
           timely site t (sound site lent (left _ true (row-passed site lent node (AtBreaker t act) 16 e)) .last-g) (row-passed site lent node (AtBreaker t act) 5 e);
-      is-fresh = left _ true (row-passed site lent node (AtBreaker t act) 7 e);
+      is-fresh = sym (or-false (fresh (act .stamp) t)) ∙ row-passed site lent node (AtBreaker t act) 7 e;
     }

@@ -5,20 +5,20 @@ use mathlib.Core.Bool.{Bool, true, false, not, _&&_, _||_, cond, false≢true}
 use mathlib.Core.List.{List, [], _∷_, _++_}
 use lib.Dec.{eqb, leb, ltb}
 use Rattle.refusals.specs.Tests.{Test, refusal}
-use Rattle.refusals.specs.laws.Bools.{and-true}
+use Rattle.refusals.specs.laws.Bools.{and-true, and-assoc, or-false}
 use Rattle.time.specs.declared.Dts.{Dts}
-use Rattle.time.specs.Fresh.{fresh}
+use Rattle.time.specs.Fresh.{fresh, next}
 use Rattle.senders.specs.Masks.{isIn, size}
 use Rattle.refusing.specs.declared.Asked.{Asked}
 use Rattle.steps.specs.declared.Beginning.{Beginning}
 use Rattle.steps.specs.declared.Event.{Event}
-use Rattle.steps.specs.declared.Event.the-variants.{Report, Deliver, ShareTimeout, ResendTimeout, Ack, Query}
+use Rattle.steps.specs.declared.Event.the-variants.{Report, Deliver, DeliverPair, ShareTimeout, ResendTimeout, Ack, Query}
 use Rattle.steps.specs.declared.Turn.{Turn}
 use Rattle.steps.specs.declared.Turn.the-variants.{Down, Up}
 use Rattle.steps.specs.declared.Act.{Act}
 use Rattle.steps.specs.declared.Step.{Step}
 use Rattle.steps.specs.declared.Step.the-variants.{Start, Tick, AtNode, Life, AtBreaker}
-use Rattle.steps.specs.Named.{report, deliver, shareTimeout, resendTimeout, ack, query, down, up, named, saidBy, saidByTurn}
+use Rattle.steps.specs.Named.{report, deliver, shareTimeout, resendTimeout, ack, query, down, up, deliverPair, named, saidBy, saidByTurn}
 use Rattle.node.specs.declared.Node.{Node}
 use Rattle.node.specs.declared.Phase.{Phase}
 use Rattle.node.specs.declared.Phase.the-variants.{Starting, Running, Down as NotUp}
@@ -26,7 +26,7 @@ use Rattle.node.specs.Asked.{phaseDown, isDown, isStarting, isRunning, isNew, i
 use Rattle.breaker.specs.Breaker.{repeats}
 use Rattle.site.specs.declared.Site.{Site}
 use Rattle.site.specs.Site.{g, lastG}
-use Rattle.refusing.specs.Tests.{isNow, isNode, isStatus, verdict, canDeliver, phaseTakes, nodeClock, areSound, canBegin, areInRange, rowsFor, testsOf}
+use Rattle.refusing.specs.Tests.{isNow, isNode, isStatus, verdict, canDeliver, phaseTakes, nodeClock, areSound, canBegin, topStamp, areInRange, rowsFor, testsOf}
 
 -- 2, 3 and 4 of a step at a node
 abbrev pub whoTests : Site → ℕ → Bool → Bool → List Test
@@ -43,10 +43,17 @@ whenTests site node t = (5, isNow site t) ∷ (6, leb (nodeClock node .0) (t .0)
 abbrev pub shareTests : Site → Dts → ℕ → ℕ → Dts → List Test
 shareTests site t sender status T = (7, fresh T t) ∷ (8, canDeliver site sender status T) ∷ []
 
+abbrev pub pairTests : Site → Dts → ℕ → ℕ → Dts → List Test
+pairTests site t sender status T =
+    (7, fresh T t || fresh (next T) t)
+    ∷ (8, (not (fresh T t) || canDeliver site sender status T) && (not (fresh (next T) t) || canDeliver site sender status (next T)))
+    ∷ []
+
 -- what is asked of one event, turn or act alone
 abbrev pub eventTests : Site → Node → Dts → Event → List Test
 eventTests site node t (Report status number) = (9, isNew node number) ∷ []
 eventTests site node t (Deliver sender status T) = shareTests site t sender status T
+eventTests site node t (DeliverPair sender status T) = pairTests site t sender status T
 eventTests site node t ShareTimeout = (12, inAttempt node) ∷ []
 eventTests site node t ResendTimeout = (12, armed node) ∷ []
 eventTests site node t (Ack back) = (13, leb (back + 1) (site .breaker .changes .count)) ∷ []
@@ -104,10 +111,18 @@ report-range site status number = sym (and-true (isStatus status))
 pub deliver-range : (site : Site) (sender status : ℕ) (T : Dts) → (isNode site sender && isStatus status) ≡ areInRange site (saidBy (Deliver sender status T))
 deliver-range site sender status T = ap (λ (x : Bool). isNode site sender && x) (sym (and-true (isStatus status)))
 
+pub pair-range : (site : Site) (sender status : ℕ) (T : Dts)
+    → (isNode site sender && isStatus status && not (eqb (T .0) topStamp)) ≡ areInRange site (saidBy (DeliverPair sender status T))
+pair-range site sender status T = and-assoc (isNode site sender) (isStatus status) (not (eqb (T .0) topStamp))
+
+pub ack-range : (site : Site) (back : ℕ) → leb back 7 ≡ areInRange site (saidBy (Ack back))
+ack-range site back = sym (and-true (leb back 7))
+
 abbrev Taken : Node → Type 0
 Taken node =
     (phaseTakes (node .phase) report ≡ not (isDown node))
     × (phaseTakes (node .phase) deliver ≡ isRunning node)
+    × (phaseTakes (node .phase) deliverPair ≡ isRunning node)
     × (phaseTakes (node .phase) shareTimeout ≡ isRunning node)
     × (phaseTakes (node .phase) resendTimeout ≡ isRunning node)
     × (phaseTakes (node .phase) ack ≡ not (isDown node))
@@ -119,9 +134,9 @@ pub taken : (node : Node) → Taken node
 taken node = go (node .phase)
   where
     go : (phase : Phase) → Taken (record { phase = phase; store = node .store })
-    go NotUp = (refl, refl, refl, refl, refl, refl, refl, refl)
-    go (Starting learned) = (refl, refl, refl, refl, refl, refl, refl, refl)
-    go (Running rec) = (refl, refl, refl, refl, refl, refl, refl, refl)
+    go NotUp = (refl, refl, refl, refl, refl, refl, refl, refl, refl)
+    go (Starting learned) = (refl, refl, refl, refl, refl, refl, refl, refl, refl)
+    go (Running rec) = (refl, refl, refl, refl, refl, refl, refl, refl, refl)
 
 -- an event is no Up, so a node that takes it is not down
 pub not-down : (p : Phase) (event : Event) → phaseTakes p (saidBy event .kind) ≡ true → not (phaseDown p) ≡ true
@@ -130,6 +145,7 @@ not-down NotUp event e = absurd (false≢true (sym (no-up event) ∙ e))
     no-up : (event : Event) → phaseTakes NotUp (saidBy event .kind) ≡ false
     no-up (Report status number) = refl
     no-up (Deliver sender status T) = refl
+    no-up (DeliverPair sender status T) = refl
     no-up ShareTimeout = refl
     no-up ResendTimeout = refl
     no-up (Ack back) = refl
@@ -139,6 +155,11 @@ not-down (Running rec) event e = refl
 
 -- ---- that the cut gives the table's refusal
 
+-- 8 is asked of a share that is fresh: after 7, of any share alone
+pub if-fresh : (fresh made : Bool) (a b k : ℕ) → cond fresh (cond (not fresh || made) a b) k ≡ cond fresh (cond made a b) k
+if-fresh true made a b k = refl
+if-fresh false made a b k = refl
+
 -- after 16, whatever its verdict is
 module _ (site : Site) (lent : ℕ) (node : Node) where
   abbrev pub Rest : Step → Type 0
@@ -147,7 +168,8 @@ module _ (site : Site) (lent : ℕ) (node : Node) where
   pub rest-event : (i : ℕ) (t : Dts) (event : Event) → Rest (AtNode i t event)
   unfolding refusal
   rest-event i t (Report status number) = simp and-true
-  rest-event i t (Deliver sender status T) = simp and-true
+  rest-event i t (Deliver sender status T) = simp (and-true, or-false, if-fresh)
+  rest-event i t (DeliverPair sender status T) = simp (and-true, or-false)
   rest-event i t ShareTimeout = simp and-true
   rest-event i t ResendTimeout = simp and-true
   rest-event i t (Ack back) = refl
@@ -160,7 +182,7 @@ module _ (site : Site) (lent : ℕ) (node : Node) where
 
   pub rest-act : (t : Dts) (act : Act) → Rest (AtBreaker t act)
   unfolding refusal
-  rest-act t act = simp and-true
+  rest-act t act = simp (and-true, or-false)
 
   pub rest-tick : Rest Tick
   unfolding refusal

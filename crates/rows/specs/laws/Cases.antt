@@ -1,12 +1,13 @@
 -- What each row's test tells, and so which number a step is answered with.
 use Prim.Native.Nat.{ℕ, _+_, _-_, _≤_, _<_}
 use mathlib.Core.Path.{_≡_, refl, sym, _∙_}
-use mathlib.Core.Bool.{true, _&&_, true≢false}
+use mathlib.Core.Bool.{true, not, _&&_, true≢false}
 use mathlib.Core.Logic.{_↔_, _⊎_}
 use native.Mathlib.Omega.{arith}
 use lib.Dec.{leb}
+use borrow.Author.Tests.{le-leb, leb-true}
 use Rattle.refusals.specs.Tests.{refusal, testAt}
-use Rattle.refusals.specs.laws.Bools.{and-assoc}
+use Rattle.refusals.specs.laws.Bools.{and-assoc, left, right}
 use Rattle.time.specs.declared.Dts.{Dts}
 use Rattle.time.specs.Fresh.{fresh}
 use Rattle.time.specs.Limits.{lastHeldClock, stampSound, clockSound}
@@ -15,20 +16,20 @@ use Rattle.store.specs.Store.{storeWithin}
 use Rattle.store.specs.Held.{held}
 use Rattle.steps.specs.declared.Beginning.{Beginning}
 use Rattle.steps.specs.declared.Step.{Step}
-use Rattle.steps.specs.Named.{tick, shareTimeout, resendTimeout, command, down, Named, named}
+use Rattle.steps.specs.Named.{tick, shareTimeout, resendTimeout, command, down, Named, named, paired}
 use Rattle.node.specs.declared.Node.{Node}
 use Rattle.node.specs.Asked.{nodeSound}
 use Rattle.breaker.specs.Breaker.{changesSound, breakerSound}
 use Rattle.site.specs.declared.Site.{Site}
 use Rattle.site.specs.Site.{nodes, n, g, mostF, mostK, firstG, lastStartG, lastG, setsSound, siteSound, actorSound}
-use Rattle.refusing.specs.Tests.{counted, phaseTakes, lastClock, canBegin, rowsFor, tableFor, testsOf}
+use Rattle.refusing.specs.Tests.{counted, phaseTakes, lastClock, canBegin, topStamp, rowsFor, tableFor, testsOf}
 use Rattle.rows.specs.Exactly.{Condition, NoneBefore, None, Tells, Tell, no-rows, also}
 use Rattle.rows.specs.laws.Exactly.{exactly, exactly-done, at-most, met}
 use Rattle.rows.specs.Outsiders.{Outsider}
 use Rattle.rows.specs.laws.Outsiders.{outsider}
 use Rattle.rows.specs.laws.Answered.{answeredWith, answered-is}
 use Rattle.rows.specs.Conditions.{SiteOutOfRange, laterRows, refusalTable}
-use Rattle.rows.specs.laws.Telling.{itself, above, from, other, negated, equal, _or_, _and_, spelled, worded, of-named, of-each, kind-is, no-start}
+use Rattle.rows.specs.laws.Telling.{itself, above, from, other, negated, equal, _or_, _and_, spelled, worded, of-named, of-each, of-one, kind-is, no-start}
 use Rattle.rows.specs.laws.Ranges.{store-tells, pair-tells, changes-tell, node-tells, new-tells, in-attempt-tells, armed-tells}
 
 pub site-tells : (site : Site) (lent : ℕ) (node : Node) (the : Named) → Tells (siteSound site lent) (SiteOutOfRange site lent node the)
@@ -92,6 +93,17 @@ begin-tells lent b =
 fresh-tells : (T t : Dts) → Tells (fresh T t) ((T .0 + 2 < t .0) ⊎ (t .0 + 2 < T .0))
 fresh-tells T t = worded (λ h. omega arith, λ h. omega arith) (above (t .0 - 2) (T .0)) or above (T .0) (t .0 + 2)
 
+stale-tells : (T t : Dts) → Tells (not (fresh T t)) ((t .0 ≤ T .0 + 2) × (T .0 ≤ t .0 + 2))
+stale-tells T t = worded (near, far) (negated (fresh T t))
+  where
+    near : fresh T t ≡ true → (t .0 ≤ T .0 + 2) × (T .0 ≤ t .0 + 2)
+    near e =
+        let low : t .0 - 2 ≤ T .0 = leb-true _ _ (left (leb (t .0 - 2) (T .0)) _ e) in
+        (omega (arith, low), leb-true _ _ (right (leb (t .0 - 2) (T .0)) _ e))
+
+    far : (t .0 ≤ T .0 + 2) × (T .0 ≤ t .0 + 2) → fresh T t ≡ true
+    far h = simp (le-leb (t .0 - 2) (T .0) (omega (arith, h .0)), le-leb (T .0) (t .0 + 2) (h .1))
+
 -- every row's test tells the row's condition: those after 16, whatever step it is that names these things,
 pub later-rows-tell : (site : Site) (lent : ℕ) (node : Node) (the : Named) → Tell (rowsFor site lent node the) (laterRows site lent node the)
 later-rows-tell site lent node the =
@@ -101,15 +113,16 @@ later-rows-tell site lent node the =
     (of-named (the .actor) (λ i. from i (n site))
     or of-named (said .sender) (λ i. from i (n site))
     or of-named (said .status) (λ A. above A 1)
-    or of-named (said .back) (λ back. above back 7))
+    or of-named (said .back) (λ back. above back 7)
+    or of-named (paired (said .stamps)) (λ T. equal (T .0) topStamp))
     (also 3 (of-named (the .actor) λ i. negated (isIn (site .compromised) i))
     (also 4 (of-named (the .actor) λ i. itself (phaseTakes (node .phase) (said .kind)))
     (also 5 (of-named (the .clock) λ t. other (t .0) (g site .0) and other (t .0) (g site .0 + 1))
     (also 6 (of-named (the .clock) λ t. above (lastClock site node (the .actor) .0) (t .0))
-    (also 7 (of-named (the .clock) λ t. of-each (said .stamps) λ T. fresh-tells T t)
+    (also 7 (of-named (the .clock) λ t. of-one (said .stamps) λ T. fresh-tells T t)
     (also 8
-    ((of-named (said .sender) λ i. of-named (said .status) λ A. of-each (said .stamps) λ T.
-    itself (isIn (site .compromised) i) and itself (held (site .made) A T i))
+    ((of-named (the .clock) λ t. of-named (said .sender) λ i. of-named (said .status) λ A. of-each (said .stamps) λ T.
+    stale-tells T t and itself (isIn (site .compromised) i) and itself (held (site .made) A T i))
     or kind-is (said .kind) command and (of-named (said .status) λ A. of-each (said .stamps) λ T. above (site .f + 1) (size (counted site A T))))
     (also 9 (of-named (said .number) λ number. new-tells node number)
     (also 11

@@ -9,7 +9,7 @@ use lib.Dec.{eqb, leb, ltb}
 use borrow.Author.Tests.{ltb-false, le-ltb, leb-false, lt-leb, eqb-true, eqb-false, eq-eqb, ne-eqb, not-false}
 use Rattle.rows.specs.Exactly.{Tells}
 use Rattle.steps.specs.declared.Beginning.{Beginning}
-use Rattle.steps.specs.Named.{StepKind, Kind-discrete, isYes, isKind, Of, OneOf, ofNamed, ofEach}
+use Rattle.steps.specs.Named.{StepKind, Kind-discrete, isYes, isKind, Of, OneOf, EachOf, AllOf, ofNamed, ofEach, anyOf, ofOne}
 use Rattle.refusing.specs.Tests.{unlessStart}
 use Rattle.rows.specs.Conditions.{NoStart}
 
@@ -72,6 +72,14 @@ of-named (some a) tells = tells a
 pub of-each : {A : Type 0} (l : List A) {p : A → Bool} {P : A → Type 0} → ((a : A) → Tells (p a) (P a)) → Tells (ofEach l p) (OneOf l P)
 of-each [] tells = (true≢false, absurd)
 of-each (a ∷ others) tells = tells a or of-each others tells
+
+of-any : {A : Type 0} (l : List A) {p : A → Bool} {P : A → Type 0} → ((a : A) → Tells (p a) (P a)) → Tells (anyOf l p) (EachOf l P)
+of-any [] tells = (λ e. tt, λ h. refl)
+of-any (a ∷ others) tells = tells a and of-any others tells
+
+pub of-one : {A : Type 0} (l : List A) {p : A → Bool} {P : A → Type 0} → ((a : A) → Tells (p a) (P a)) → Tells (ofOne l p) (AllOf l P)
+of-one [] tells = (true≢false, absurd)
+of-one (a ∷ others) tells = tells a and of-any others tells
 
 -- a test of the kind
 pub kind-is : (a b : StepKind) → Tells (not (isKind a b)) (a ≡ b)

@@ -77,7 +77,7 @@ module _ (f j : ℕ) where
 
   module _
       (breaker : Breaker) (s : Store) (own : List Accepted) (number : ℕ) (t : Dts) (event : Event)
-      (room-for : j < room) (l : s .clock .0 ≤ t .0) (m : t .0 ≤ latestClock) (d : Delivers t event) (r : remembers breaker event ≡ true)
+      (room-for : j < room) (l : s .clock .0 ≤ t .0) (m : t .0 ≤ latestClock) (d : Delivers event) (r : remembers breaker event ≡ true)
       (says : ofNamed (saidBy event .status) isStatus ≡ true)
     where
       abbrev at : Phase → Node
@@ -137,12 +137,12 @@ module _ (f j : ℕ) where
           at-clock = clock-after breaker rec s j f t event l m d (action rec fits)
 
           broughtNow : ℕ → List Pair
-          broughtNow i = broughtBy event i j (end (Running rec) .shares)
+          broughtNow i = broughtBy t event i j (end (Running rec) .shares)
 
           more : (i : ℕ) → deliveries i j (step (Running rec) ∷ own) ≡ broughtNow i ++ deliveries i j own
           more i =
               ap (λ (x : Bool). cond x (brought i j (step (Running rec)) ++ deliveries i j own) []) (sym (runs-told (Running rec) s own fits))
-              ∙ ap (λ (ps : List Pair). (ps ++ cond (eqb i j) (listed (end (Running rec) .shares)) []) ++ deliveries i j own) (delivered-as-told event i)
+              ∙ ap (λ (ps : List Pair). (ps ++ cond (eqb i j) (listed (end (Running rec) .shares)) []) ++ deliveries i j own) (delivered-as-told t event i)
 
           held-now : (i A : ℕ) (T : Dts) → held (end (Running rec) .node .store) A T i ≡ (has (broughtNow i ++ deliveries i j own) A T && fresh T t)
           held-now i A T =

@@ -1,17 +1,15 @@
 -- Every sequence of steps keeps what Keeps.antt says.
-use Prim.Native.Nat.{ℕ, zero, suc, _+_, _≤_, _<_}
+use Prim.Native.Nat.{ℕ, _+_, _≤_}
 use mathlib.Core.Path.{_≡_, refl, sym, ap, subst, _∙_}
 use mathlib.Core.Bool.{Bool, true, false, cond, false≢true}
 use mathlib.Core.Logic.{inr}
-use mathlib.Core.List.{List, [], _∷_, _++_}
+use mathlib.Core.List.{List, [], _∷_}
 use mathlib.Core.Option.{Option, none, some, Option·getD}
-use native.Mathlib.Nat.{not-suc-le-zero, le-of-suc-le-suc}
 use native.Mathlib.Omega.{arith}
 use lib.Dec.{leb}
 use lib.ListN.{length, getD, drop}
 use borrow.Author.Tests.{lt-ltb, leb-true}
-use Rattle.refusals.specs.laws.Bools.{left, right}
-use Rattle.tables.specs.Tables.{table}
+use Rattle.refusals.specs.laws.Bools.{right}
 use Rattle.time.specs.declared.Dts.{Dts}
 use Rattle.time.specs.Fresh.{fresh, next}
 use Rattle.senders.specs.Masks.{size}
@@ -36,7 +34,6 @@ use Rattle.site.specs.declared.Site.{Site}
 use Rattle.site.specs.declared.Out.{Out}
 use Rattle.site.specs.Site.{nodes, g, mostF, mostK}
 use Rattle.site.specs.Answers.{silence}
-use Rattle.refusing.specs.Tests.{isNode, isStatus}
 use Rattle.refusing.specs.laws.Accepted.{Passes, row-passed, begins, happens, turns}
 use Rattle.effects.specs.Effects.{startedSite, firstRecord, ticked, act, commanded, turned, effectOf}
 use Rattle.stepping.specs.laws.StepLaws.{by-tests}
@@ -146,11 +143,9 @@ module _ (h : List Entry) (site : Site) (records : List Node) (before : (b : Beg
   happens-at i t event e = λ b q.
       let node = getD records i wentDown in
       let x = happens site (length records) node i t event e in
-      let range = right (ofNamed (saidBy event .sender) (isNode site)) _ (x .in-range) in
-      let says = left (ofNamed (saidBy event .status) isStatus) _ range in
-      let few = right (ofNamed (saidBy event .status) isStatus) (ofNamed (saidBy event .back) (λ back. leb back 7)) range in
-      let is = remembered (site .breaker) (saidBy event .back) few (row-passed site (length records) node (AtNode i t event) 13 e) in
-      let d = delivers site t event (x .place .room-for-node) (x .in-range) (row-passed site (length records) node (AtNode i t event) 7 e) in
+      let says = x .of-status in
+      let is = remembered (site .breaker) (saidBy event .back) (x .of-back) (row-passed site (length records) node (AtNode i t event) 13 e) in
+      let d = delivers site event (x .place .room-for-node) (x .of-sender) (x .of-status) in
       let fits = before b q .fits i (correct b (accepted h) site records (before b q) i (x .place)) in
       let up = x .is-up in
       acts b (accepted h) site records (before b q) i (nextNumber h) t event (x .place)

@@ -2,19 +2,17 @@
 use Prim.Native.Nat.{ℕ, _≤_, _<_}
 use mathlib.Core.Path.{_≡_, refl, sym, ap, ap₂, subst, fun-ext, _∙_}
 use mathlib.Core.Bool.{Bool, true, false, not, _&&_, cond, false≢true}
-use mathlib.Core.List.{List, [], _∷_, _++_}
-use mathlib.Core.Option.{Option, some}
-use lib.Dec.{eqb, leb}
+use mathlib.Core.List.{List, _∷_, _++_}
+use mathlib.Core.Option.{some}
+use lib.Dec.{eqb}
 use borrow.Author.Tests.{eq-eqb}
-use lib.ListN.{length, getD, set}
+use lib.ListN.{length, getD}
 use lib.Seq.{getD-set-same}
-use Rattle.refusals.specs.laws.Bools.{left, right}
 use Rattle.time.specs.declared.Dts.{Dts}
 use Rattle.time.specs.Fresh.{fresh}
 use Rattle.time.specs.laws.Fresh.{latestClock}
-use Rattle.senders.specs.Masks.{room}
 use Rattle.store.specs.declared.Store.{Store}
-use Rattle.store.specs.Store.{empty, storeWithin}
+use Rattle.store.specs.Store.{storeWithin}
 use Rattle.store.specs.Held.{held}
 use Rattle.store.specs.laws.Held.{held-empty}
 use Rattle.store.specs.laws.WithinLaws.{within-held}
@@ -39,7 +37,7 @@ use Rattle.steps.specs.declared.Turn.the-variants.{Down, Up}
 use Rattle.steps.specs.declared.Act.{Act}
 use Rattle.steps.specs.declared.Step.{Step}
 use Rattle.steps.specs.declared.Step.the-variants.{Start, Tick, AtNode, Life, AtBreaker}
-use Rattle.steps.specs.Named.{saidBy, named, ofNamed}
+use Rattle.steps.specs.Named.{saidBy, named}
 use Rattle.acting.specs.Acting.{changedBy, acted}
 use Rattle.acting.specs.laws.ByEvent.{left-by}
 use Rattle.acting.specs.laws.Running.{remembers, goes-on}
@@ -51,13 +49,13 @@ use Rattle.told.specs.laws.Rule.{by-rule}
 use Rattle.site.specs.declared.Site.{Site}
 use Rattle.site.specs.declared.Out.{Out}
 use Rattle.site.specs.Site.{nodes}
-use Rattle.refusing.specs.Tests.{phaseTakes, isNode, isStatus}
+use Rattle.refusing.specs.Tests.{phaseTakes}
 use Rattle.refusing.specs.laws.Accepted.{Passes, row-passed, happens}
-use Rattle.effects.specs.Effects.{ticked, act, commanded, turned, effectOf}
+use Rattle.effects.specs.Effects.{act, commanded, turned, effectOf}
 use Rattle.stepping.specs.laws.StepLaws.{by-tests}
 use Rattle.lent.specs.Lent.{recordOf, outOf, tableAfter, tableAfterAnswer}
-use Rattle.sequences.specs.History.{Entry, Accepted, nextNumber, lastStart, accepted, atNode, runs, deliveries}
-use Rattle.sequences.specs.Told.{changePairs, breakerPair, numberedOf, toldTo, rThen, bThen, heldThen}
+use Rattle.sequences.specs.History.{Entry, Accepted, nextNumber, lastStart, accepted, atNode, deliveries}
+use Rattle.sequences.specs.Told.{changePairs, toldTo, rThen, bThen, heldThen}
 use Rattle.sequences.specs.Moments.{Moment, Reached, from, then, afterStep, entry, nodeAt}
 use Rattle.sequences.specs.Demand.{Always, Correct, EachStep, SendsAtOnce}
 use Rattle.sequences.specs.State.{sharesTold, commandsTold, SentSo, SentAsTold}
@@ -65,7 +63,7 @@ use Rattle.sequences.specs.laws.Fitting.{doneWith, sentBy, runs-told}
 use Rattle.sequences.specs.laws.Keeps.{FitsNode, Keeps, correct}
 use Rattle.sequences.specs.laws.Reaching.{remembered, no-start, reached-keeps}
 use Rattle.sequences.specs.laws.OfBreaker.{change-numbered}
-use Rattle.sequences.specs.laws.NodeTold.{NodeTells, suits}
+use Rattle.sequences.specs.laws.NodeTold.{suits}
 use Rattle.sequences.specs.laws.SiteTold.{Tells}
 use Rattle.sequences.specs.laws.StateTold.{reached-told}
 use Rattle.sequences.specs.laws.Soundness.{in-range}
@@ -182,9 +180,7 @@ module _
     happens-at i t event e = λ b q after.
         let node = getD records i wentDown in
         let x = happens site (length records) node i t event e in
-        let range = right (ofNamed (saidBy event .sender) (isNode site)) _ (x .in-range) in
-        let few = right (ofNamed (saidBy event .status) isStatus) (ofNamed (saidBy event .back) (λ back. leb back 7)) range in
-        let is = remembered (site .breaker) (saidBy event .back) few (row-passed site (length records) node (AtNode i t event) 13 e) in
+        let is = remembered (site .breaker) (saidBy event .back) (x .of-back) (row-passed site (length records) node (AtNode i t event) 13 e) in
         let c = correct b (accepted h) site records (keeps b q) i (x .place) in
         let end = acted (site .breaker) node i (site .f) t event in
         let own = atNode i (doneWith (nextNumber h) (AtNode i t event) (sentBy end) ∷ accepted h) in

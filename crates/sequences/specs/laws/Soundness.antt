@@ -2,7 +2,7 @@
 -- its numbers are in range and that its second pair is no later than b, and known where b is.
 use Prim.Native.Nat.{ℕ, _≤_, _<_}
 use mathlib.Core.Path.{_≡_, refl, sym, ap₂, subst}
-use mathlib.Core.Bool.{Bool, true, false, _&&_, _||_, cond, and-eq-true-iff}
+use mathlib.Core.Bool.{Bool, true, false, _&&_, _||_, and-eq-true-iff}
 use mathlib.Core.List.{List, _∷_}
 use mathlib.Core.Option.{Option, none, some}
 use lib.Dec.{eqb, leb, lit<}
@@ -11,11 +11,10 @@ use lib.Seq.{getD-set-same, getD-set-other}
 use borrow.Author.Tests.{eqb-true, eqb-false, leb-true, leb-false, ltb-true}
 use Rattle.refusals.specs.laws.Bools.{left}
 use Rattle.time.specs.declared.Dts.{Dts}
-use Rattle.senders.specs.Masks.{isIn}
 use Rattle.node.specs.declared.Node.{Node}
 use Rattle.node.specs.Asked.{nodeInRange, nodeSound}
 use Rattle.node.specs.laws.Soundness.{Intact, intact-sound, FollowsIn}
-use Rattle.events.specs.Events.{wentDown, wentUp}
+use Rattle.events.specs.Events.{wentDown}
 use Rattle.steps.specs.declared.Beginning.{Beginning}
 use Rattle.steps.specs.declared.Event.{Event}
 use Rattle.steps.specs.declared.Turn.{Turn}
@@ -117,7 +116,7 @@ module _ (h : List Entry) (site : Site) (records : List Node) (before : (b : Beg
       (record {
         in-range =
             acted-in-range (site .breaker) node i (site .f) (n site) t event (x .not-back) (x .not-late) (x .place .is-node)
-            (if-named (isNode site) (λ k. k < n site) (λ k is. ltb-true _ _ is) (saidBy event .sender) (left _ _ (x .in-range)))
+            (if-named (isNode site) (λ k. k < n site) (λ k is. ltb-true _ _ is) (saidBy event .sender) (x .of-sender))
             (tested site (length records) (s .of-site) .of-breaker) (s .of-nodes i (x .place .is-node) .in-range);
         follows = acted-follows (site .breaker) node i (site .f) t event (s .of-nodes i (x .place .is-node) .follows);
       })

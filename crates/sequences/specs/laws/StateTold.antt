@@ -1,25 +1,23 @@
 -- In every sequence the site and its table are what the history tells.
-use Prim.Native.Nat.{ℕ, _+_, _-_, _^_, _≤_, _<_}
+use Prim.Native.Nat.{ℕ, _+_, _-_, _<_}
 use mathlib.Core.Path.{_≡_, refl, sym, ap, subst, _∙_}
-use mathlib.Core.Bool.{Bool, true, false, not, _&&_, _||_, cond, false≢true}
+use mathlib.Core.Bool.{Bool, true, false, _||_, cond, false≢true}
 use mathlib.Core.Logic.{_⊎_, inl, inr}
-use mathlib.Core.List.{List, [], _∷_, _++_}
+use mathlib.Core.List.{List, [], _∷_}
 use mathlib.Core.Option.{Option, some, Option·getD}
 use native.Mathlib.Omega.{arith}
-use lib.Dec.{eqb, leb}
-use lib.ListN.{length, getD, set, drop}
+use lib.Dec.{eqb}
+use lib.ListN.{length, getD, drop}
 use lib.Seq.{getD-set-same}
-use borrow.Author.Tests.{eqb-true, eq-eqb, le-leb}
-use Rattle.refusals.specs.laws.Bools.{left, right}
+use borrow.Author.Tests.{eqb-true, le-leb}
+use Rattle.refusals.specs.laws.Bools.{left}
 use Rattle.time.specs.declared.Dts.{Dts}
 use Rattle.time.specs.Fresh.{window, fresh}
 use Rattle.senders.specs.Masks.{isIn}
 use Rattle.senders.specs.laws.MaskLaws.{in-none}
 use Rattle.store.specs.Store.{empty}
 use Rattle.store.specs.laws.Held.{held-empty}
-use Rattle.pairs.specs.Pair.{listed, has}
 use Rattle.node.specs.declared.Node.{Node}
-use Rattle.combining.specs.laws.OwnLaws.{Near}
 use Rattle.events.specs.Events.{wentDown, wentUp}
 use Rattle.breaker.specs.Breaker.{started}
 use Rattle.steps.specs.declared.Beginning.{Beginning}
@@ -29,7 +27,7 @@ use Rattle.steps.specs.declared.Turn.the-variants.{Down, Up}
 use Rattle.steps.specs.declared.Act.{Act}
 use Rattle.steps.specs.declared.Step.{Step}
 use Rattle.steps.specs.declared.Step.the-variants.{Start, Tick, AtNode, Life, AtBreaker}
-use Rattle.steps.specs.Named.{saidBy, named, ofNamed}
+use Rattle.steps.specs.Named.{saidBy, named}
 use Rattle.acting.specs.Acting.{acted}
 use Rattle.acting.specs.laws.Relay.{relay-told}
 use Rattle.acting.specs.laws.Shares.{AtOwnClock, shared}
@@ -37,14 +35,14 @@ use Rattle.site.specs.declared.Site.{Site}
 use Rattle.site.specs.declared.Out.{Out}
 use Rattle.site.specs.Site.{nodes, g}
 use Rattle.site.specs.laws.Sound.{sound}
-use Rattle.refusing.specs.Tests.{isNow, isNode, isStatus}
+use Rattle.refusing.specs.Tests.{isNow}
 use Rattle.refusing.specs.laws.Accepted.{Passes, row-passed, happens, turns}
-use Rattle.effects.specs.Effects.{startedSite, firstRecord, ticked, act, commanded, turned, effectOf}
+use Rattle.effects.specs.Effects.{startedSite, firstRecord, act, commanded, turned, effectOf}
 use Rattle.stepping.specs.laws.StepLaws.{by-tests}
 use Rattle.lent.specs.Lent.{recordOf, outOf, tableAfter, tableAfterAnswer}
 use Rattle.loans.specs.Loans.{firstRecords}
 use Rattle.loans.specs.laws.LoanLaws.{front}
-use Rattle.sequences.specs.History.{Entry, Accepted, nextNumber, lastStart, accepted, atNode}
+use Rattle.sequences.specs.History.{Entry, nextNumber, lastStart, accepted, atNode}
 use Rattle.sequences.specs.Moments.{Moment, Reached, from, then}
 use Rattle.sequences.specs.laws.Fitting.{doneWith, sentBy}
 use Rattle.sequences.specs.laws.Keeps.{FitsNode, Keeps, correct}
@@ -128,9 +126,7 @@ module _
     happens-at i t event e = λ b q kept.
         let node = getD records i wentDown in
         let x = happens site (length records) node i t event e in
-        let range = right (ofNamed (saidBy event .sender) (isNode site)) _ (x .in-range) in
-        let few = right (ofNamed (saidBy event .status) isStatus) (ofNamed (saidBy event .back) (λ back. leb back 7)) range in
-        let is = remembered (site .breaker) (saidBy event .back) few (row-passed site (length records) node (AtNode i t event) 13 e) in
+        let is = remembered (site .breaker) (saidBy event .back) (x .of-back) (row-passed site (length records) node (AtNode i t event) 13 e) in
         let c = correct b (accepted h) site records (keeps b q) i (x .place) in
         let end = acted (site .breaker) node i (site .f) t event in
         let own = atNode i (doneWith (nextNumber h) (AtNode i t event) (sentBy end) ∷ accepted h) in

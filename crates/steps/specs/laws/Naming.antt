@@ -4,17 +4,12 @@ use mathlib.Core.Bool.{Bool, true}
 use mathlib.Core.List.{List, [], _∷_}
 use mathlib.Core.Option.{Option, none, some}
 use Rattle.refusals.specs.laws.Bools.{left, right}
-use Rattle.steps.specs.Named.{ofNamed, ofEach}
+use Rattle.steps.specs.Named.{EachOf, ofNamed, ofEach}
 
 -- if it names one, P holds of that
 abbrev pub IfNamed : {A : Type 0} → Option A → (A → Type 0) → Type 0
 IfNamed none P = Unit {0}
 IfNamed (some a) P = P a
-
--- each of those that it names is as P says
-abbrev pub EachOf : {A : Type 0} → List A → (A → Type 0) → Type 0
-EachOf [] P = Unit {0}
-EachOf (a ∷ others) P = P a × EachOf others P
 
 module _ {A : Type 0} (p : A → Bool) (P : A → Type 0) (so : (a : A) → p a ≡ true → P a) where
   pub if-named : (o : Option A) → ofNamed o p ≡ true → IfNamed o P

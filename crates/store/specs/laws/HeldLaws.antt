@@ -6,6 +6,7 @@ use mathlib.Core.Logic.{_⊎_, inl, inr}
 use native.Mathlib.Omega.{arith}
 use lib.Dec.{eqb}
 use borrow.Author.Tests.{lt-ltb}
+use Rattle.refusals.specs.laws.Bools.{and-true}
 use Rattle.time.specs.declared.Dts.{Dts}
 use Rattle.time.specs.Fresh.{fresh}
 use Rattle.senders.specs.Masks.{room}
@@ -14,10 +15,13 @@ use Rattle.store.specs.Store.{hasPlace, put, movedTo}
 use Rattle.store.specs.Held.{held, hasRoomFor}
 use Rattle.store.specs.laws.Held.{held-put, clock-moved}
 
--- a store has room for what is near its clock
-pub takes-near : (s : Store) (i A : ℕ) (T : Dts) → i < room → A ≤ 1 → fresh T (s .clock) ≡ true → hasRoomFor s i A T ≡ true
+-- of a sender and an action that there are, a store has room for what is fresh at its clock, and for nothing else
+pub room-if-fresh : (s : Store) (i A : ℕ) (T : Dts) → i < room → A ≤ 1 → hasRoomFor s i A T ≡ fresh T (s .clock)
 unfolding hasRoomFor hasPlace
-takes-near s i A T l a f = simp (lt-ltb i room l, lt-ltb A 2 (omega arith), f)
+room-if-fresh s i A T l a = simp (lt-ltb i room l, lt-ltb A 2 (omega arith), and-true)
+
+pub takes-near : (s : Store) (i A : ℕ) (T : Dts) → i < room → A ≤ 1 → fresh T (s .clock) ≡ true → hasRoomFor s i A T ≡ true
+takes-near s i A T l a f = room-if-fresh s i A T l a ∙ f
 
 pub held-taken : (s : Store) (i a : ℕ) (T : Dts) (b : ℕ) (U : Dts) (j : ℕ) → hasRoomFor s i a T ≡ true
     → held (put s i a T) b U j ≡ (eqb b a && eqb (U .0) (T .0) && eqb j i || held s b U j)

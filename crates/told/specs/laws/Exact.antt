@@ -1,30 +1,26 @@
 -- Every event does what the step tells the node: of r, b, the number and resend, before the combining rule and after it; and what it shares and sends again.
 use Prim.Native.Nat.{ℕ}
-use mathlib.Core.Path.{_≡_, refl, sym, ap, ap₂, subst, _∙_}
+use mathlib.Core.Path.{_≡_, refl, sym, ap, ap₂, _∙_}
 use mathlib.Core.Bool.{Bool, true, false, not, _&&_, cond, false≢true, and-not-self}
-use mathlib.Core.List.{List, [], _∷_}
+use mathlib.Core.List.{[], _∷_}
 use mathlib.Core.Option.{none}
 use mathlib.Core.Logic.{_⊎_, inl, inr}
-use lib.Dec.{eqb, leb}
 use Rattle.time.specs.declared.Dts.{Dts}
 use Rattle.time.specs.Fresh.{fresh}
 use Rattle.time.specs.Larger.{larger}
 use Rattle.pairs.specs.declared.Pair.{Pair}
 use Rattle.pairs.specs.declared.Known.{Known}
 use Rattle.pairs.specs.declared.Known.the-variants.{Yes, No}
-use Rattle.pairs.specs.declared.Pairs.{Pairs}
-use Rattle.pairs.specs.declared.Pairs.the-variants.{Zero, One, Two}
+use Rattle.pairs.specs.declared.Pairs.the-variants.{Zero}
 use Rattle.pairs.specs.Pair.{pair}
 use Rattle.pairs.specs.laws.KnownLaws.{isKnown}
 use Rattle.node.specs.declared.Last.{Last}
-use Rattle.node.specs.declared.Last.the-variants.{Number, Unknown}
+use Rattle.node.specs.declared.Last.the-variants.{Number}
 use Rattle.node.specs.declared.Learned.{Learned}
-use Rattle.node.specs.declared.Record.{Record}
 use Rattle.node.specs.declared.Resend.{Resend}
 use Rattle.node.specs.declared.Resend.the-variants.{Armed, Off}
 use Rattle.node.specs.declared.Phase.{Phase}
 use Rattle.node.specs.declared.Phase.the-variants.{Down, Starting, Running}
-use Rattle.node.specs.declared.Changed.{Changed}
 use Rattle.node.specs.Asked.{phaseDown, phaseStarting, phaseRunning, knownR, knownB}
 use Rattle.node.specs.laws.PhaseLaws.{RunsOnceKnown}
 use Rattle.events.specs.Events.{begun, reportStamp, kept, reportShares, reportRunning, reportStarting, reported, shareTimedOut, returned, givenUp, resendTimedOut, laterThan, ackResend, ackRunning, ackStarting, acked, queried}
@@ -32,11 +28,11 @@ use Rattle.events.specs.laws.EventLaws.{share-phase, share-shares, stale, resen
 use Rattle.breaker.specs.declared.Breaker.{Breaker}
 use Rattle.breaker.specs.Breaker.{changeAt}
 use Rattle.steps.specs.declared.Event.{Event}
-use Rattle.steps.specs.declared.Event.the-variants.{Report, Deliver, ShareTimeout, ResendTimeout, Ack, Query}
+use Rattle.steps.specs.declared.Event.the-variants.{Report, Deliver, DeliverPair, ShareTimeout, ResendTimeout, Ack, Query}
 use Rattle.steps.specs.Named.{StepKind, report, shareTimeout, resendTimeout, ack, query, down, Said, saidBy, isKind, among}
 use Rattle.acting.specs.Acting.{ackedBy, changedBy}
 use Rattle.acting.specs.laws.ByEvent.{remembers}
-use Rattle.told.specs.Telling.{Knows, areDone, areAttempt, areKnown, relayBy, laterOf, isStale, givesUpBy, returnsTo, isAckOf, leavesDone, resendBy, sharesBy, againOf, againBy, knowsAfter, knownIn}
+use Rattle.told.specs.Telling.{Knows, areDone, relayBy, laterOf, isStale, givesUpBy, returnsTo, isAckOf, leavesDone, resendBy, sharesBy, againOf, againBy, knowsAfter, knownIn}
 
 -- ---- start-up: what was learned stays known, and nothing is resent
 
@@ -270,6 +266,15 @@ module _ (breaker : Breaker) (t : Dts) where
         unsent = λ e. refl;
       }
   told-by (Deliver sender A T) p =
+      record {
+        knows = λ up suits known. sym (same-knows (knownIn p));
+        shares = λ up suits once. refl;
+        command = refl;
+        apart = inl refl;
+        alone = inl refl;
+        unsent = λ e. absurd (false≢true e);
+      }
+  told-by (DeliverPair sender A T) p =
       record {
         knows = λ up suits known. sym (same-knows (knownIn p));
         shares = λ up suits once. refl;
