@@ -112,7 +112,7 @@ edges =
     -- 2: the last T that there is has none after it, and that is asked before 7
     ∷ (eqb (answer site 100 (DeliverPair 2 TRIP (at 4_294_967_295))) 2 && eqb (answer site 100 (DeliverPair 2 TRIP (at 4_294_967_294))) 7)
     ∷ (eqb (answer site 100 (Deliver 2 TRIP (at 4_294_967_295))) 7 && eqb (answer site 100 (DeliverPair 3 TRIP (at 100))) 2 && eqb (answer site 100 (DeliverPair 2 2 (at 100))) 2)
-    -- a pair that completes two stamps at once sends the earlier, once; the later by itself is sent at once, and so are two Delivers not a pair
+    -- a pair that completes two stamps at once sends the earlier, and one command; of two Delivers the first one sends, whichever it is
     ∷ (sends (DeliverPair 0 TRIP (at 100)) 100 && sends (Deliver 0 TRIP (at 101)) 101 && sends (Deliver 0 TRIP (at 100)) 100)
     ∷ []
 

@@ -83,7 +83,7 @@ changesIn first (a ∷ before) = changeBy (a .step) a (breakerStatus first befor
 
 -- ---- at one node
 
--- the step is at node j: for Deliver, j is the receiver
+-- the step is at node j: for Deliver and for a pair, j is the receiver
 abbrev pub isAt : ℕ → Accepted → Bool
 isAt = Of.isAt named
 

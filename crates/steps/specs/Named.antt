@@ -51,7 +51,7 @@ saidByTurn Up = only up
 abbrev pub saidByAct : Act → Said
 saidByAct act = record { kind = command; status = some (act .status); stamps = act .stamp ∷ []; sender = none; number = none; back = none }
 
--- What a step names: the acting node (for Deliver, the receiver), the clock t, what Start gives (its status is judged with its other fields), and
+-- What a step names: the acting node (for Deliver and for a pair, the receiver), the clock t, what Start gives (its status is judged with its other fields), and
 -- what it says beside these.
 pub record Named : Type 0 where
   pub actor : Option ℕ
@@ -99,11 +99,12 @@ abbrev pub OneOf : {A : Type 0} → List A → (A → Type 0) → Type 0
 OneOf [] P = ⊥
 OneOf (a ∷ others) P = P a ⊎ OneOf others P
 
--- it names some, and each of them is as P says
+-- each of those that it names is as P says
 abbrev pub EachOf : {A : Type 0} → List A → (A → Type 0) → Type 0
 EachOf [] P = Unit {0}
 EachOf (a ∷ others) P = P a × EachOf others P
 
+-- and it names some
 abbrev pub AllOf : {A : Type 0} → List A → (A → Type 0) → Type 0
 AllOf [] P = ⊥
 AllOf (a ∷ others) P = P a × EachOf others P
@@ -117,7 +118,7 @@ abbrev pub ofEach : {A : Type 0} → List A → (A → Bool) → Bool
 ofEach [] p = true
 ofEach (a ∷ others) p = p a && ofEach others p
 
--- one of those that it names passes
+-- passed by one of them; and by a step that names none
 abbrev pub anyOf : {A : Type 0} → List A → (A → Bool) → Bool
 anyOf [] p = false
 anyOf (a ∷ others) p = p a || anyOf others p
