@@ -1,4 +1,6 @@
 // An event at a node, to its end.
+#![tactic(auto)]
+
 ghost use Rattle.std.specs.Prelude.{◌≡◌};
 ghost use Rattle.acting.specs.Acting.{acked_by, changed_by, stored, acted};
 

@@ -1,4 +1,6 @@
 // The breaker of the Arbiter Protocol: it holds the messages that reach it, and moves once enough senders ask for it.
+#![tactic(auto)]
+
 ghost use Rattle.std.specs.Prelude.{◌≡◌};
 ghost use Rattle.arbiter_breaker.specs.Arbitrating.{other, received, decided, arbitrated};
 
@@ -9,7 +11,7 @@ use store::Store;
 use time::Dts;
 
 // What an accepted message leaves: the breaker, the messages that it holds, and the ack that it sends, if it moved.
-#[derive(Drop)]
+#[derive(Clone, Copy)]
 pub struct Arbitrated {
     pub breaker: Breaker,
     pub held: Store,

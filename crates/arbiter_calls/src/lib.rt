@@ -1,5 +1,7 @@
 // From calls to lines: how the steps of an Arbiter site reach a program, and what it prints. A call is twelve bytes: a letter, three bytes a, b and c, and two numbers
 // x and y of four bytes each, big-endian. It is no log: there is no version, no length, and nothing writes it.
+#![tactic(auto)]
+
 mod lines;
 
 ghost use Rattle.std.specs.Prelude.{◌≡◌};
@@ -17,7 +19,7 @@ use steps::{Beginning, Turn};
 use time::Dts;
 
 // What twelve bytes say: a step, or nothing that is one.
-#[derive(Drop)]
+#[derive(Clone, Copy)]
 pub enum Found {
     Call(Step),
     Malformed,
@@ -121,7 +123,7 @@ pub fn read(call: &[u8]) -> Found
 }
 
 // Where a run stands: the site and its twelve records, and the lines so far.
-#[derive(Drop)]
+#[derive(Clone, Copy)]
 pub struct Run {
     pub site: Arbiter,
     pub nodes: [Voter; 12],
@@ -129,7 +131,7 @@ pub struct Run {
 }
 
 // The run after a call, how much of the output was written, and whether the run ends with it.
-#[derive(Drop)]
+#[derive(Clone, Copy)]
 pub struct Ran {
     pub run: Run,
     pub put: usize,

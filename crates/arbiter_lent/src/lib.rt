@@ -1,5 +1,7 @@
 // The table of nodes of an Arbiter site, lent by the caller: one record for each node. A step takes the record of the node that it names out of the table, goes by
 // value, and writes the record back; an accepted Start sets the first n records anew.
+#![tactic(auto)]
+
 pub mod whole;
 
 ghost use Rattle.std.specs.Prelude.{◌≡◌, get_or, set};
@@ -15,7 +17,7 @@ use arbiter_steps::Step;
 use site::Answer;
 
 // What a step says to its caller, beside the table that it leaves.
-#[derive(Drop)]
+#[derive(Clone, Copy)]
 pub struct Told {
     pub answer: Answer,
     pub site: Arbiter,

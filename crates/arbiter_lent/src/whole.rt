@@ -12,7 +12,7 @@ use site::Answer;
 // How many records there are: the most that any n asks for.
 pub const RECORDS: usize = 12;
 
-#[derive(Drop)]
+#[derive(Clone, Copy)]
 pub struct Whole {
     pub answer: Answer,
     pub site: Arbiter,

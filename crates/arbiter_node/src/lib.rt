@@ -1,4 +1,6 @@
 // A node of the Arbiter Protocol, by value: 01's node, which keeps no shares, combines nothing, sends no command and arms no resend.
+#![tactic(auto)]
+
 ghost use Rattle.std.specs.Prelude.{◌≡◌};
 ghost use Rattle.effects.specs.Effects.{first_record};
 ghost use Rattle.arbiter_node.specs.Voter.{phase_in_peer, in_peer, of_peer_phase, of_peer, first_of, voted};
@@ -12,7 +14,7 @@ use store::Store;
 use time::Dts;
 
 // What a starting node has learned so far. It sends no command when it runs, and so has no second pair (§9 of 02).
-#[derive(Drop)]
+#[derive(Clone, Copy)]
 pub struct Learning {
     pub r: Known,
     pub b: Known,
@@ -20,14 +22,14 @@ pub struct Learning {
 }
 
 // What a running node knows.
-#[derive(Drop)]
+#[derive(Clone, Copy)]
 pub struct Heard {
     pub r: Pair,
     pub b: Pair,
     pub number: Last,
 }
 
-#[derive(Drop)]
+#[derive(Clone, Copy)]
 pub enum Phase {
     Down,
     Starting(Learning),
@@ -35,14 +37,14 @@ pub enum Phase {
 }
 
 // The clock is the node's last: 0 where it has none yet.
-#[derive(Drop)]
+#[derive(Clone, Copy)]
 pub struct Voter {
     pub phase: Phase,
     pub clock: Dts,
 }
 
 // What an event made of a node: the record afterwards, and the message that it sends to the breaker, if it sends one.
-#[derive(Drop)]
+#[derive(Clone, Copy)]
 pub struct Voted {
     pub voter: Voter,
     pub message: Known,

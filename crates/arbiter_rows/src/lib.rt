@@ -1,2 +1,3 @@
 // Each row of document 01's table of refusals as a statement of its own, of a site of the Arbiter Protocol. There is no code here: specs/Rows.antt is what a reader
 // checks against the table.
+#![tactic(auto)]

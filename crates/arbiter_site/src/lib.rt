@@ -1,5 +1,7 @@
 // The site of the Arbiter Protocol, and its steps by value: 01's site, and the messages that its breaker holds. What 01's site does in a step that both have is
 // asked of its own functions.
+#![tactic(auto)]
+
 ghost use Rattle.std.specs.Prelude.{◌≡◌, ◌&&◌, ◌∷◌};
 ghost use Rattle.refusals.specs.Tests.{refusal};
 ghost use Rattle.site.specs.Site.{actor_sound};
@@ -25,13 +27,13 @@ use time::{Dts, LAST_HELD_CLOCK};
 
 // Of 01's site `made` are the messages that correct nodes have sent since Start, as far as they are fresh; `held` are those that the breaker holds, fresh at its
 // clock.
-#[derive(Drop)]
+#[derive(Clone, Copy)]
 pub struct Arbiter {
     pub site: Site,
     pub held: Store,
 }
 
-#[derive(Drop)]
+#[derive(Clone, Copy)]
 pub struct Out {
     pub answer: Answer,
     pub site: Arbiter,

@@ -1,6 +1,5 @@
 -- What a step of an Arbiter site is, and what it names: the steps that 01's site has too name what they name there, and a message is "Deliver, with the breaker
 -- as receiver" (§3 of 02).
-use Rattle.std.specs.Prelude.{[], ◌∷◌}
 use Rattle.std.proofs.Math.Option.{none, some}
 use Rattle.steps.specs.declared.Event.{Event as PeerEvent}
 use Rattle.steps.specs.declared.Event.TheVariants as Peer

@@ -1,5 +1,7 @@
 // The steps of a site of the Arbiter Protocol, in the five shapes of 01's: a Start, a Tick, an event at a node at its clock, a turn in a node's life, a message
 // to the breaker at its clock. There is no command, no Deliver to a node and no resend timeout.
+#![tactic(auto)]
+
 ghost use Rattle.std.specs.Prelude.{◌≡◌};
 ghost use Rattle.arbiter_steps.specs.Steps.{in_peer};
 
@@ -7,7 +9,7 @@ use steps::{Beginning, Turn};
 use time::Dts;
 
 // What happens at a node, at its clock.
-#[derive(Drop)]
+#[derive(Clone, Copy)]
 pub enum Event {
     Report { status: u8, number: u32 },
     ShareTimeout,
@@ -16,14 +18,14 @@ pub enum Event {
 }
 
 // What reaches the breaker: a status with the stamp that its sender gave it.
-#[derive(Drop)]
+#[derive(Clone, Copy)]
 pub struct Message {
     pub sender: u8,
     pub status: u8,
     pub stamp: Dts,
 }
 
-#[derive(Drop)]
+#[derive(Clone, Copy)]
 pub enum Step {
     Tick,
     Start(Beginning),

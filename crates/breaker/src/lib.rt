@@ -1,4 +1,6 @@
 // The breaker: its status and stamp, its last clock, and the last eight changes.
+#![tactic(auto)]
+
 ghost use Rattle.std.specs.Prelude.{◌≡◌};
 ghost use Rattle.breaker.specs.Breaker.{remembered, started, answered, changed, after_command, change_at, pair_sound, changes_sound, breaker_sound};
 
@@ -6,13 +8,13 @@ use pairs::{Known, Pair};
 use time::{Dts, LAST_HELD_CLOCK, LAST_HELD_STAMP};
 
 // Changes, the newest first.
-#[derive(Drop)]
+#[derive(Clone, Copy)]
 pub struct Changes {
     pub pairs: [Pair; 8],
     pub count: u8,
 }
 
-#[derive(Drop)]
+#[derive(Clone, Copy)]
 pub struct Breaker {
     pub pair: Pair,
     pub clock: Dts,

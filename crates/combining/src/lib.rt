@@ -1,4 +1,6 @@
 // The combining rule, and the end of an event.
+#![tactic(auto)]
+
 ghost use Rattle.std.specs.Prelude.{◌≡◌};
 ghost use Rattle.combining.specs.Combining.{commanding, combined, ended, put_all, followed, finished};
 
@@ -9,14 +11,14 @@ use store::{Earliest, Store};
 use time::Dts;
 
 // A record after the combining rule, and the command that it sends.
-#[derive(Drop)]
+#[derive(Clone, Copy)]
 pub struct Combined {
     pub rec: Record,
     pub command: Known,
 }
 
 // A phase at the end of an event, and the command that the combining rule sends.
-#[derive(Drop)]
+#[derive(Clone, Copy)]
 pub struct Ended {
     pub phase: Phase,
     pub command: Known,

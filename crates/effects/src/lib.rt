@@ -1,5 +1,7 @@
 // What each step of a site does once its tests are passed: of the site the part that it changes, and the record of the acting node. A command's part is the
 // breaker afterwards, which is `breaker::command`'s.
+#![tactic(auto)]
+
 ghost use Rattle.std.specs.Prelude.{◌≡◌};
 ghost use Rattle.effects.specs.Effects.{no_site, started_site, first_record, made_later};
 ghost use Rattle.effects.specs.laws.Parts.{noted_of, turned_of};
@@ -12,7 +14,7 @@ use store::Store;
 use time::Dts;
 
 // What an event leaves: the node's record, the shares that the site knows to be made, and what is sent.
-#[derive(Drop)]
+#[derive(Clone, Copy)]
 pub struct Noted {
     pub node: Node,
     pub made: Store,
@@ -21,7 +23,7 @@ pub struct Noted {
 }
 
 // What a turn leaves: the nodes that are down, and the record.
-#[derive(Drop)]
+#[derive(Clone, Copy)]
 pub struct Turned {
     pub down: u16,
     pub node: Node,

@@ -1,4 +1,6 @@
 // What an event makes of a node: of its phase, before the combining rule, and of its store. An event that the phase does not take leaves it.
+#![tactic(auto)]
+
 ghost use Rattle.std.specs.Prelude.{◌≡◌};
 ghost use Rattle.events.specs.Events.{unchanged, once_known, begun, store_at, kept, report_stamp, report_shares, report_running, report_starting, report_r, reported, share_timed_out, sent_again, returned, given_up, resend_timed_out, later, later_than, ack_resend, ack_running, ack_starting, acked, queried, went_down, went_up};
 

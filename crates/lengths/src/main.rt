@@ -1,15 +1,17 @@
 // Tables of exactly n records, of one less, of none, of more than n, and of more than any n asks for: for each what is answered, and how many records were
 // set. They are lent to `lent::step` itself, from an array of sixteen.
+#![tactic(auto)]
+
 ghost use Rattle.std.specs.Prelude.{◌≤◌, ◌≡◌, length};
 ghost use Rattle.lent.specs.Lent.{SaidWithin};
 
-use libc::STDOUT_FILENO;
 use node::Node;
 use site::{Answer, Site};
+use std::io;
 use steps::{Beginning, Step};
 use time::Dts;
 
-#[derive(Drop)]
+#[derive(Clone, Copy)]
 struct Larger {
     answer: Answer,
     site: Site,
@@ -38,13 +40,8 @@ fn step_with(site: Site, count: usize, step: Step) -> Larger {
     step_larger(site, [down; 16], 16, step)
 }
 
-fn say(text: &[u8], number: u64) {
-    io::write_all(STDOUT_FILENO, text);
-    io::print_decimal(STDOUT_FILENO, number);
-}
-
-fn end_line() {
-    io::write_all(STDOUT_FILENO, b"\n");
+fn say(rt: &impl Print, text: &str, number: u64) -> io::Result<()> {
+    print!(rt; "{text}{number}")
 }
 
 fn number_of(answer: Answer) -> u64 {
@@ -70,7 +67,7 @@ fn set_in(n: [Node; 16]) -> u64 {
 }
 
 // A Start with so many records of nodes that are down.
-fn start_with(f: u8, k: u8, count: usize) -> Site {
+fn start_with(rt: &impl Print, f: u8, k: u8, count: usize) -> io::Result<Site> {
     let site = effects::no_site();
     let step = Step::Start(Beginning {
         f,
@@ -82,39 +79,40 @@ fn start_with(f: u8, k: u8, count: usize) -> Site {
     let whole = step_with(site, count, step);
     let answer = whole.answer;
     let nodes = whole.nodes;
-    say(b"Start, n ", site::sound::nodes(f, k) as u64);
-    say(b", records ", count as u64);
-    say(b": ", number_of(answer));
-    say(b", set ", set_in(nodes));
-    end_line();
-    whole.site
+    say(rt, "Start, n ", site::sound::nodes(f, k) as u64)?;
+    say(rt, ", records ", count as u64)?;
+    say(rt, ": ", number_of(answer))?;
+    say(rt, ", set ", set_in(nodes))?;
+    println!(rt; "")?;
+    Ok(whole.site)
 }
 
 // A Tick of a site that was started with enough records, and is then lent so many.
-fn tick_with(site: Site, count: usize) {
+fn tick_with(rt: &impl Print, site: Site, count: usize) -> io::Result<()> {
     let whole = step_with(site, count, Step::Tick);
     let answer = whole.answer;
-    say(b"then Tick, records ", count as u64);
-    say(b": ", number_of(answer));
-    end_line();
+    say(rt, "then Tick, records ", count as u64)?;
+    say(rt, ": ", number_of(answer))?;
+    println!(rt; "")
 }
 
-fn main() {
-    start_with(0, 0, 0);
-    start_with(0, 0, 1);
-    start_with(0, 0, 12);
-    start_with(1, 0, 0);
-    start_with(1, 0, 2);
-    start_with(1, 0, 3);
-    start_with(1, 0, 4);
-    start_with(4, 3, 11);
-    start_with(4, 3, 12);
-    start_with(4, 3, 13);
-    start_with(4, 3, 16);
-    let started = start_with(1, 1, 4);
-    tick_with(started, 4);
-    tick_with(started, 12);
-    tick_with(started, 16);
-    tick_with(started, 3);
-    tick_with(started, 0);
+fn main(rt: HostRuntime) -> io::Result<()> {
+    start_with(&rt, 0, 0, 0)?;
+    start_with(&rt, 0, 0, 1)?;
+    start_with(&rt, 0, 0, 12)?;
+    start_with(&rt, 1, 0, 0)?;
+    start_with(&rt, 1, 0, 2)?;
+    start_with(&rt, 1, 0, 3)?;
+    start_with(&rt, 1, 0, 4)?;
+    start_with(&rt, 4, 3, 11)?;
+    start_with(&rt, 4, 3, 12)?;
+    start_with(&rt, 4, 3, 13)?;
+    start_with(&rt, 4, 3, 16)?;
+    let started = start_with(&rt, 1, 1, 4)?;
+    tick_with(&rt, started, 4)?;
+    tick_with(&rt, started, 12)?;
+    tick_with(&rt, started, 16)?;
+    tick_with(&rt, started, 3)?;
+    tick_with(&rt, started, 0)?;
+    Ok(())
 }

@@ -1,5 +1,7 @@
 // The table of nodes, lent by the caller: one record for each node. A step takes the record of the node that it names out of the table,
 // goes by value, and writes the record back; an accepted Start sets the first n records anew.
+#![tactic(auto)]
+
 ghost use Rattle.std.specs.Prelude.{◌≡◌, ◌≤◌, length, set};
 ghost use Rattle.lent.specs.Lent.{Said, SaidWithin};
 ghost use Rattle.steps.specs.Named.{named};
@@ -10,7 +12,7 @@ use site::{Answer, Site};
 use steps::Step;
 
 // What a step says to its caller, beside the table that it leaves.
-#[derive(Drop)]
+#[derive(Clone, Copy)]
 pub struct Told {
     pub answer: Answer,
     pub site: Site,
@@ -98,7 +100,7 @@ pub fn step(site: Site, nodes: &mut [Node], step: Step) -> Told
     told
 }
 
-#[derive(Drop)]
+#[derive(Clone, Copy)]
 pub struct Whole {
     pub answer: Answer,
     pub site: Site,

@@ -1,4 +1,6 @@
 // A table of nodes that the caller lends: one record is taken out, one is written to its place, and the first n are made anew.
+#![tactic(auto)]
+
 ghost use Rattle.std.specs.Prelude.{◌≡◌, get_or, set};
 ghost use Rattle.events.specs.Events.{went_down};
 ghost use Rattle.effects.specs.Effects.{first_record};

@@ -1,4 +1,6 @@
 // A relay node by value: what it knows, its state, and what is asked of it.
+#![tactic(auto)]
+
 pub mod asked;
 
 use pairs::{Known, Pair, Pairs};
@@ -6,14 +8,14 @@ use store::Store;
 use time::Dts;
 
 // The relay's last state number since start-up.
-#[derive(Drop)]
+#[derive(Clone, Copy)]
 pub enum Last {
     Number(u32),
     Unknown,
 }
 
 // What a starting node has learned so far. The second pair is the breaker's status and stamp as acknowledged or queried.
-#[derive(Drop)]
+#[derive(Clone, Copy)]
 pub struct Learned {
     pub r: Known,
     pub b: Known,
@@ -22,14 +24,14 @@ pub struct Learned {
 }
 
 // The stamp of the command that is sent again and again, if one is.
-#[derive(Drop)]
+#[derive(Clone, Copy)]
 pub enum Resend {
     Armed(Dts),
     Off,
 }
 
 // What a running node knows. The second pair may be missing in a record that is lent: 16 says what then.
-#[derive(Drop)]
+#[derive(Clone, Copy)]
 pub struct Record {
     pub r: Pair,
     pub b: Pair,
@@ -38,7 +40,7 @@ pub struct Record {
     pub resend: Resend,
 }
 
-#[derive(Drop)]
+#[derive(Clone, Copy)]
 pub enum Phase {
     Down,
     Starting(Learned),
@@ -46,14 +48,14 @@ pub enum Phase {
 }
 
 // The store's clock is the node's last clock, whatever its phase: 0 where it has none yet.
-#[derive(Drop)]
+#[derive(Clone, Copy)]
 pub struct Node {
     pub store: Store,
     pub phase: Phase,
 }
 
 // What an event makes of a phase, before the combining rule: the phase afterwards, what it shares, and the command that it sends, if it sends one.
-#[derive(Drop)]
+#[derive(Clone, Copy)]
 pub struct Changed {
     pub phase: Phase,
     pub shares: Pairs,
@@ -61,7 +63,7 @@ pub struct Changed {
 }
 
 // What an event made of a node, at its end: the record afterwards, and what it sends.
-#[derive(Drop)]
+#[derive(Clone, Copy)]
 pub struct Acted {
     pub node: Node,
     pub shares: Pairs,

@@ -1,4 +1,6 @@
 // What a store holds for an action over all its fresh stamps above a bound, taken together.
+#![tactic(auto)]
+
 ghost use Rattle.std.specs.Prelude.{◌<◌, ◌≡◌};
 ghost use Rattle.store.specs.Earliest.{fresh_stamp};
 ghost use Rattle.pooling.specs.Pooling.{added, pooled};
@@ -7,7 +9,7 @@ use store::Store;
 use time::{Dts, WINDOW};
 
 // Whoever is held at one of those stamps or another, and the latest of the stamps at which somebody is: 0 where nobody is.
-#[derive(Drop)]
+#[derive(Clone, Copy)]
 pub struct Pool {
     pub senders: u16,
     pub latest: Dts,

@@ -1,4 +1,6 @@
 // How every refusal of the model is decided: by the first test that fails.
+#![tactic(auto)]
+
 ghost use Rattle.std.specs.Prelude.{◌≡◌, [], ◌∷◌};
 ghost use Rattle.refusals.specs.Tests.{refusal, or_later};
 

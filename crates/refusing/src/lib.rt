@@ -1,5 +1,7 @@
 // The refusal of a step of each shape: the number of the first test that fails, and 0 where none does. The verdict of 16 is given: `is_sound_at` works it
 // out, and `site::sound::is_site_sound` where no node acts.
+#![tactic(auto)]
+
 ghost use Rattle.std.specs.Prelude.{◌≡◌, ◌&&◌, [], ◌∷◌};
 ghost use Rattle.refusals.specs.Tests.{refusal};
 ghost use Rattle.site.specs.Site.{site_sound, actor_sound};
@@ -15,7 +17,7 @@ use steps::{Act, Beginning, Event, Step, Turn};
 use time::Dts;
 
 // What is asked of one event: 2 of its fields, 4 of the node's phase, and the refusal of its own tests.
-#[derive(Drop)]
+#[derive(Clone, Copy)]
 struct Asked {
     fields: bool,
     phase: bool,

@@ -40,10 +40,10 @@ told m [] h = h
 told m (step ∷ steps) h = told (after_step m step) steps (entry m step ∷ h)
 
 -- what is printed is of a sequence of steps, each given the site and table that the last one left
-pub prints-reached : {first : Moment} {h : List Entry} {log : List ℕ} {last : Bool} {run end : Run} {at to : ℕ} {steps : List Step} {text : List ℕ}
+pub prints-reached : {first : Moment} {log : List ℕ} {last : Bool} {run end : Run} {at to : ℕ} {steps : List Step} {text : List ℕ} {h : List Entry}
     → Prints log last run at steps text end to → Reached first h (moment_of run) → Reached first (told (moment_of run) steps h) (moment_of end)
 unfolding applied over_after
 prints-reached no_lines r = r
 prints-reached (version v is p) r = prints-reached p r
 prints-reached (malformed is) r = r
-prints-reached (line step next is p) r = prints-reached p (then r step)
+prints-reached {h = h} (line {run = run} step next is p) r = prints-reached {h = entry (moment_of run) step ∷ h} p (then r step)

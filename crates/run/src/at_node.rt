@@ -13,7 +13,7 @@ use text::line::{put_loud, put_quiet, shown_stamp, shown_status};
 use time::Dts;
 
 // Whether nothing was sent, and the shares are as they were; the place after the line; the shares that the site knows to be made, and the record.
-#[derive(Drop)]
+#[derive(Clone, Copy)]
 pub struct Taken {
     pub quiet: bool,
     pub put: usize,

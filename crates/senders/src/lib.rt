@@ -1,4 +1,6 @@
 // Sets of senders. A set is a mask of 16 bits: bit i is sender i.
+#![tactic(auto)]
+
 ghost use Rattle.std.specs.Prelude.{◌≡◌};
 ghost use Rattle.senders.specs.Masks.{is_in, size, enough, joined, without, together, within};
 

@@ -1,5 +1,7 @@
 // The site: the breaker and what is kept of the nodes, and what a step answers. A step takes the site, the number of records that the caller
 // lends and the record of the acting node, all by value, and hands site and record back with its answer.
+#![tactic(auto)]
+
 pub mod sound;
 
 ghost use Rattle.std.specs.Prelude.{◌≡◌};
@@ -22,7 +24,7 @@ pub const LAST_START_G: u32 = 999999000;
 pub const LAST_G: u32 = 1000000000;
 
 // The site's clock g is the clock of `made`, the fresh shares that correct nodes have made since Start.
-#[derive(Drop)]
+#[derive(Clone, Copy)]
 pub struct Site {
     pub started: bool,
     pub f: u8,
@@ -34,20 +36,20 @@ pub struct Site {
 }
 
 // What a step sends: shares by rising stamp, then commands, then an ack.
-#[derive(Drop)]
+#[derive(Clone, Copy)]
 pub struct Sent {
     pub shares: Pairs,
     pub commands: Pairs,
     pub ack: Known,
 }
 
-#[derive(Drop)]
+#[derive(Clone, Copy)]
 pub enum Answer {
     Done(Sent),
     Refused(u8),
 }
 
-#[derive(Drop)]
+#[derive(Clone, Copy)]
 pub struct Out {
     pub answer: Answer,
     pub site: Site,

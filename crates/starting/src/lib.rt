@@ -1,4 +1,6 @@
 // A Start as the loop of a run does it: over a table of twelve records by value, with the verdict of 16 that the loop keeps, which a Start alone renews.
+#![tactic(auto)]
+
 ghost use Rattle.std.specs.Prelude.{◌≤◌, ◌≡◌};
 ghost use Rattle.loans.specs.Loans.{first_records};
 ghost use Rattle.starting.specs.laws.Judging.{kept};
@@ -9,7 +11,7 @@ use site::Site;
 use steps::Beginning;
 
 // What a Start leaves, refused or not.
-#[derive(Drop)]
+#[derive(Clone, Copy)]
 pub struct Begun {
     pub refusal: u8,
     pub site: Site,

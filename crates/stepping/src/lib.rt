@@ -1,5 +1,7 @@
 // Every step of a site: its tests first, then what it does. Steps of one shape change one part of the site: `parts` has a function for each shape, which is given
 // the verdict of 16 and hands back that part alone. Here are whole steps, which work the verdict out: those functions, given their own test's result.
+#![tactic(auto)]
+
 pub mod parts;
 
 ghost use Rattle.std.specs.Prelude.{◌≡◌};

@@ -13,13 +13,13 @@ use steps::{Act, Event, Turn};
 use store::Store;
 use time::Dts;
 
-#[derive(Drop)]
+#[derive(Clone, Copy)]
 pub struct Ticked {
     pub refusal: u8,
     pub made: Store,
 }
 
-#[derive(Drop)]
+#[derive(Clone, Copy)]
 pub struct Acted {
     pub refusal: u8,
     pub made: Store,
@@ -28,14 +28,14 @@ pub struct Acted {
     pub commands: Pairs,
 }
 
-#[derive(Drop)]
+#[derive(Clone, Copy)]
 pub struct Lived {
     pub refusal: u8,
     pub down: u16,
     pub node: Node,
 }
 
-#[derive(Drop)]
+#[derive(Clone, Copy)]
 pub struct Told {
     pub refusal: u8,
     pub breaker: Breaker,

@@ -1,5 +1,7 @@
 // The share store: for each action and each stamp that is fresh at the store's clock, the set of senders whose share is held. The store
 // knows its clock, and a share is held only while its stamp is fresh there.
+#![tactic(auto)]
+
 ghost use Rattle.std.specs.Prelude.{◌<◌, ◌≡◌};
 ghost use Rattle.store.specs.Store.{place_of, empty, put, turn, moved_to, senders_of, store_within};
 ghost use Rattle.store.specs.Earliest.{fresh_stamp, earliest};
@@ -7,20 +9,20 @@ ghost use Rattle.store.specs.Earliest.{fresh_stamp, earliest};
 use time::{Dts, WINDOW};
 
 // The sets stand in front: a whole store is then read in memory as its parts were written, and the processor need not wait.
-#[derive(Drop)]
+#[derive(Clone, Copy)]
 pub struct Store {
     pub masks: [u16; 10],
     pub clock: Dts,
 }
 
 // Where the senders of an action and a stamp stand.
-#[derive(Drop)]
+#[derive(Clone, Copy)]
 enum Place {
     At(usize),
     Nowhere,
 }
 
-#[derive(Drop)]
+#[derive(Clone, Copy)]
 pub enum Earliest {
     Stamp(Dts),
     Nothing,

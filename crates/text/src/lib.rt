@@ -1,5 +1,7 @@
 // A line of sitelog's output, written into a lent buffer: here its numbers, in `line` the line. Each function writes from a place on and hands
 // back the place after what it wrote.
+#![tactic(auto)]
+
 pub mod line;
 
 ghost use Rattle.std.specs.Prelude.{◌+◌, ◌≤◌, ◌<◌, length};

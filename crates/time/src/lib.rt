@@ -1,4 +1,6 @@
 // Clock readings in microseconds, discretised time stamps (DTS), and what is asked of them.
+#![tactic(auto)]
+
 ghost use Rattle.std.specs.Prelude.{◌≡◌};
 ghost use Rattle.time.specs.Discretising.{added, refused_reading, discretised_by, discretised, default_interval};
 ghost use Rattle.time.specs.Fresh.{fresh, next};
@@ -6,15 +8,15 @@ ghost use Rattle.time.specs.Larger.{larger};
 ghost use Rattle.time.specs.Newer.{newer};
 
 // A clock reading, or an interval, in microseconds.
-#[derive(Drop)]
+#[derive(Clone, Copy)]
 pub struct Micros(pub u64);
 
 // A discretised time stamp.
-#[derive(Drop)]
+#[derive(Clone, Copy)]
 pub struct Dts(pub u32);
 
 // How a reading becomes a whole number of intervals.
-#[derive(Drop)]
+#[derive(Clone, Copy)]
 pub enum Rounding {
     Down,
     Nearest,
@@ -37,7 +39,7 @@ pub const LAST_HELD_STAMP: u32 = 1000000003;
 
 pub const LAST_HELD_CLOCK: u32 = 1000000003;
 
-#[derive(Drop)]
+#[derive(Clone, Copy)]
 pub struct Discretised {
     pub refusal: u8,
     pub stamp: Dts,

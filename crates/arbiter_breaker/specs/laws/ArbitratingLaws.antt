@@ -24,7 +24,6 @@ use Rattle.pairs.specs.declared.Known.TheVariants.{Yes, No}
 use Rattle.breaker.specs.declared.Breaker.{Breaker}
 use Rattle.breaker.specs.Breaker.{answered, changed}
 use Rattle.arbiter_steps.specs.declared.Message.{Message}
-use Rattle.arbiter_breaker.specs.declared.Arbitrated.{Arbitrated}
 use Rattle.arbiter_breaker.specs.Arbitrating.{other, received, asking, changed_by, decided}
 
 -- the other action is one of the two, and not the one that there is

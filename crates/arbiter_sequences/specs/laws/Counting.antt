@@ -20,6 +20,7 @@ use Rattle.arbiter_sequences.specs.History.{some_of}
 -- ---- one of a list passes a test
 
 some_in : (Ts : List ℕ) (test : ℕ → Bool) {T : ℕ} → In T Ts → test T ≡ true → some_of Ts test ≡ true
+some_in [] test {T = T} x'' e = elim x'' [ ]
 some_in (T ∷ Ts) test first e = ap (λ (x : Bool). x || some_of Ts test) e
 some_in (U ∷ Ts) test (after w) e = later (test U) (some_in Ts test w e)
   where

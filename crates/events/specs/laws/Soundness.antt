@@ -1,7 +1,7 @@
 -- Each event leaves a phase that refusal 16 lets pass, if it found one: the stamps that it brings are no later than those that a record may hold. And each
 -- leaves the second pair no later than b, and known where b is, if it found it so.
 use Rattle.std.specs.Prelude.{ℕ, ◌≤◌, ◌≡◌, refl, Bool, true, false, not, ◌&&◌, cond, leb}
-use Rattle.std.proofs.Common.{sym, ap, ap₂, subst, arith, leb-true, leb-false, le-leb}
+use Rattle.std.proofs.Common.{sym, ap, subst, arith, leb-true, leb-false, le-leb}
 use Rattle.time.specs.declared.Dts.{Dts}
 use Rattle.time.specs.Limits.{last_held_stamp, stamp_sound}
 use Rattle.time.specs.laws.Larger.{larger-most}
@@ -13,7 +13,7 @@ use Rattle.pairs.specs.declared.Known.TheVariants.{Yes, No}
 use Rattle.pairs.specs.Pair.{same}
 use Rattle.node.specs.declared.Last.{Last}
 use Rattle.node.specs.declared.Record.{Record}
-use Rattle.node.specs.declared.Resend.TheVariants.{Armed, Off}
+use Rattle.node.specs.declared.Resend.TheVariants.{Off}
 use Rattle.node.specs.declared.Phase.{Phase}
 use Rattle.node.specs.declared.Phase.TheVariants.{Down, Starting, Running}
 use Rattle.node.specs.Asked.{known_r, known_b, known_second, resending, known_sound, resend_sound, Follows}

@@ -1,5 +1,5 @@
 -- What is asked of a pair that is known, or not.
-use Rattle.std.specs.Prelude.{ℕ, ◌≡◌, Bool, true, false, eqb}
+use Rattle.std.specs.Prelude.{ℕ, ◌≡◌, Bool, false, eqb}
 use Rattle.std.proofs.Common.{ap}
 use Rattle.std.proofs.lemmas.Bool.{false≢true}
 use Rattle.pairs.specs.declared.Pair.{Pair}

@@ -48,6 +48,7 @@ in_table (suc n) rule (suc j) l = after (in_table n (λ k. rule (suc k)) j (omeg
 
 pub from-table : (n : ℕ) (rule : ℕ → ℕ) (T : ℕ) → In T (table n rule) → (j : ℕ) × (j < n) × (rule j ≡ T)
 unfolding table
+from-table zero rule T x' = elim x' [ ]
 from-table (suc n) rule T first = (zero, omega arith, refl)
 from-table (suc n) rule T (after w) = let r = from-table n (λ k. rule (suc k)) T w in (suc r.0, omega (arith, r.1), r.2)
 
@@ -147,6 +148,7 @@ module _ (s : Store) (A : ℕ) (above : Dts) where
   all_stay (T ∷ Ts) pool i e = all_stay Ts (added s A above pool T) i (stays pool T i e)
 
   all_join : (Ts : List ℕ) (pool : Pool) (i : ℕ) {T : ℕ} → In T Ts → Counts T → held_at T i ≡ true → is_in (added_all s A above pool Ts).senders i ≡ true
+  all_join [] pool i {T = T} x3 c h = elim x3 [ ]
   all_join (U ∷ Ts) pool i first c h = all_stay Ts (added s A above pool U) i (joins pool U i c h)
   all_join (U ∷ Ts) pool i (after w) c h = all_join Ts (added s A above pool U) i w c h
 
@@ -188,6 +190,7 @@ module _ (s : Store) (A : ℕ) (above : Dts) where
       omega (arith, now, later)
 
   all-latest : (Ts : List ℕ) (pool : Pool) → Rises pool.latest.0 Ts → {T : ℕ} → In T Ts → Counts T → T ≤ (added_all s A above pool Ts).latest.0
+  all-latest [] pool r {T = T} x3 c = elim x3 [ ]
   all-latest (U ∷ Ts) pool r first c =
       let now : (added s A above pool U).latest.0 ≡ U = ap (λ (d : Dts). d.0) (latest-counted pool U c) in
       let later = all-not-less Ts (added s A above pool U) (next-rises U Ts pool r.0 r.1) in

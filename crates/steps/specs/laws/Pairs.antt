@@ -1,5 +1,5 @@
 -- A pair stands for T and T+1, whatever T is, but for the last stamp of 32 bits.
-use Rattle.std.specs.Prelude.{ℕ, ◌+◌, ◌<◌, ◌≡◌, List, [], ◌∷◌, map}
+use Rattle.std.specs.Prelude.{ℕ, ◌+◌, ◌<◌, ◌≡◌, [], ◌∷◌, map}
 use Rattle.std.proofs.Common.{ap, arith}
 use Rattle.time.specs.declared.Dts.{Dts}
 use Rattle.time.specs.laws.Fresh.{next-is}

@@ -5,7 +5,7 @@ use Rattle.std.proofs.lemmas.Bool.{false≢true}
 use Rattle.std.proofs.Common.{inl, inr, le_trans, mul_comm, le-div_iff_mul-le, arith}
 use Rattle.std.proofs.Math.Nat.{mul-div-le, add-div_right}
 use borrow.Author.Tests.{leb-true, ltb-true, ltb-false}
-use Rattle.refusals.specs.Tests.{refusal, passed}
+use Rattle.refusals.specs.Tests.{passed}
 use Rattle.refusals.specs.laws.Tests.{done-passed}
 use Rattle.time.specs.declared.Micros.{Micros}
 use Rattle.time.specs.declared.Rounding.{Rounding}

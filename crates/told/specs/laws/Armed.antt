@@ -1,7 +1,7 @@
 -- What is being resent is b: where a stamp is, it is b's, and the node is in Done. Nothing that a node is told ends that.
 use Rattle.std.specs.Prelude.{ℕ, ◌≡◌, refl, Bool, true, false, not, ◌&&◌, cond, ◌⊎◌, eqb, leb}
 use Rattle.std.proofs.Common.{sym, ap, subst, ◌∙◌, true≢false, inl, inr, eqb-true, eq-eqb}
-use Rattle.std.proofs.lemmas.Bool.{false≢true, eqb-false}
+use Rattle.std.proofs.lemmas.Bool.{false≢true}
 use Rattle.std.proofs.Math.Option.{Option, none, some}
 use Rattle.time.specs.declared.Dts.{Dts}
 use Rattle.pairs.specs.declared.Pair.{Pair}
@@ -9,7 +9,7 @@ use Rattle.pairs.specs.declared.Known.{Known}
 use Rattle.pairs.specs.declared.Known.TheVariants.{Yes, No}
 use Rattle.node.specs.declared.Resend.{Resend}
 use Rattle.node.specs.declared.Resend.TheVariants.{Armed, Off}
-use Rattle.steps.specs.Named.{report, query, Said, is_kind}
+use Rattle.steps.specs.Named.{query, Said, is_kind}
 use Rattle.told.specs.Telling.{Knows, are_done, reported_as, relay_by, later_of, acked_as, heard_by, gives_up_by, returns_to, same_status, is_ack_of, leaves_done, knows_after}
 use Rattle.told.specs.laws.Exact.{AckOrReport}
 

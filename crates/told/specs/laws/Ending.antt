@@ -1,5 +1,5 @@
 -- An event to its end: what the node has been told then, what it shared, and what it sent.
-use Rattle.std.specs.Prelude.{ℕ, ◌≡◌, Bool, not, ◌&&◌, cond, List, [], ◌∷◌, ◌++◌}
+use Rattle.std.specs.Prelude.{ℕ, ◌≡◌, Bool, not, ◌&&◌, cond, ◌++◌}
 use Rattle.std.proofs.Math.Path.{refl, ap, subst}
 use Rattle.std.proofs.Common.{sym, ap₂, ◌∙◌, inl, inr}
 use Rattle.std.proofs.Math.Bool.{true, false, and-not_self}
@@ -16,7 +16,6 @@ use Rattle.store.specs.Earliest.{earliest}
 use Rattle.pairs.specs.declared.Pair.{Pair}
 use Rattle.pairs.specs.declared.Known.{Known}
 use Rattle.pairs.specs.declared.Known.TheVariants.{Yes, No}
-use Rattle.pairs.specs.declared.Pairs.{Pairs}
 use Rattle.pairs.specs.Pair.{pair, listed, listed_known}
 use Rattle.pairs.specs.laws.KnownLaws.{none-known, same_known}
 use Rattle.node.specs.declared.Resend.{Resend}

@@ -18,7 +18,6 @@ use Rattle.pairs.specs.Pair.{pair, listed, has}
 use Rattle.pairs.specs.laws.KnownLaws.{none-known, same_known}
 use Rattle.node.specs.declared.Resend.{Resend}
 use Rattle.node.specs.declared.Resend.TheVariants.{Armed, Off}
-use Rattle.node.specs.declared.Record.{Record}
 use Rattle.node.specs.declared.Phase.{Phase}
 use Rattle.node.specs.declared.Phase.TheVariants.{Down, Starting, Running}
 use Rattle.node.specs.declared.Node.{Node}

@@ -1,17 +1,16 @@
 -- The combining rule, for who is held: it sends the command of the earliest fresh stamp above b's that is held from at least f + 1 of n nodes.
-use Rattle.std.specs.Prelude.{ℕ, zero, suc, ◌+◌, ◌-◌, ◌^◌, ◌≤◌, ◌<◌, ◌≡◌, Bool, ◌&&◌}
+use Rattle.std.specs.Prelude.{ℕ, zero, suc, ◌+◌, ◌^◌, ◌≤◌, ◌<◌, ◌≡◌, Bool, ◌&&◌}
 use Rattle.std.proofs.Math.Path.{refl, ap}
-use Rattle.std.proofs.Common.{sym, ap₂, subst, ◌∙◌, arith, lt-ltb}
+use Rattle.std.proofs.Common.{ap₂, ◌∙◌, arith, lt-ltb}
 use Rattle.std.proofs.Math.Bool.{true, false, cond}
 use Rattle.std.proofs.lemmas.Bool.{false≢true}
 use Rattle.std.proofs.Math.Dec.{leb, ltb}
 use Rattle.refusals.specs.laws.Bools.{and-true}
 use Rattle.time.specs.declared.Dts.{Dts}
-use Rattle.time.specs.Fresh.{window}
 use Rattle.time.specs.laws.Fresh.{latest_clock}
 use Rattle.senders.specs.Sets.{count_below}
 use Rattle.senders.specs.laws.Sets.{count-ext, count-above}
-use Rattle.senders.specs.Masks.{is_in, size, room}
+use Rattle.senders.specs.Masks.{size, room}
 use Rattle.tables.specs.Tables.{table}
 use Rattle.store.specs.declared.Store.{Store}
 use Rattle.store.specs.declared.Earliest.{Earliest}

@@ -1,0 +1,5 @@
+use borrow.Author.Rules.{rules}
+use Rattle.arbiter.proofs.first.Goals as goal
+
+pub returns : goal.returns
+returns c = simp c.begin.ensures

@@ -1,0 +1,5 @@
+use borrow.Author.Rules.{rules}
+use Rattle.effects.proofs.tick.Goals as goal
+
+pub returns : goal.returns
+returns c = simp (c.move_to.ensures, c.next.ensures)

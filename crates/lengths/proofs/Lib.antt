@@ -1,1 +1,0 @@
--- A table of sixteen records, lent by hand (step_larger).

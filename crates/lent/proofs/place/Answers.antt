@@ -1,0 +1,5 @@
+use borrow.Author.Rules.{rules}
+use Rattle.lent.proofs.place.Goals as goal
+
+pub returns-in-AtNode : goal.returns-in-AtNode
+returns-in-AtNode c = rw c.in-AtNode.is c.index.ensures

@@ -1,0 +1,10 @@
+use Rattle.refusals.specs.Tests.{refusal}
+use Rattle.refusals.proofs.test.Goals as goal
+
+pub returns-then-passed : goal.returns-then-passed
+unfolding refusal
+returns-then-passed c = simp c.if-passed.true
+
+pub returns-else-passed : goal.returns-else-passed
+unfolding refusal
+returns-else-passed c = simp c.if-passed.false

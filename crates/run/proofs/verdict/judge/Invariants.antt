@@ -1,0 +1,10 @@
+use Rattle.std.proofs.Common.{◌≡◌, ℕ, ◌+◌, ◌-◌, ◌<◌, ◌≤◌, length, sym, subst, arith, rules}
+use Rattle.events.specs.Events.{went_down}
+use Rattle.starting.specs.laws.Judging.{kept, Judging, any-default, judging-begins, judging-more}
+use Rattle.run.proofs.verdict.judge.Given as goal
+
+abbrev pub invariant-loop-i : goal.invariant-loop-i
+invariant-loop-i l = (l.i ≤ kept) × Judging l.site l.nodes l.i l.fits
+
+abbrev pub decreases-loop-i : goal.decreases-loop-i
+decreases-loop-i l = kept - l.i

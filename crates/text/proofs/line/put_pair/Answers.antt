@@ -1,0 +1,6 @@
+use Rattle.text.specs.Puts.{then}
+use borrow.Author.Rules.{rules}
+use Rattle.text.proofs.line.put_pair.Goals as goal
+
+pub returns : goal.returns
+returns c = then c.put_byte-a.ensures (then c.put_byte-b.ensures c.put_stamped.ensures)

@@ -1,0 +1,8 @@
+use Rattle.text.specs.Puts.{then}
+use borrow.Author.Rules.{rules}
+use Rattle.text.proofs.line.put_stamped.Goals as goal
+
+pub returns : goal.returns
+returns c =
+    rw (← c.letter-status.ensures)
+    (then c.put_byte-a.ensures (then c.put_byte-b.ensures c.put_number.ensures))
