@@ -9,7 +9,9 @@
 # where nothing was run.
 
 newer() { # newer MARK: a source, or a folder of sources, that was changed since then
-    find "$root/crates.txt" "$root/crates" -newer "$1" \( -name '*.rt' -o -name '*.antt' -o -name crates.txt -o -type d \) -print -quit
+    local folders=("$root"/crates/*/src "$root"/crates/*/specs "$root"/crates/*/proofs)   # out/ beside them is the build's own
+    find "$root/crates.txt" "$root/crates" -maxdepth 0 -newer "$1" -print
+    find "${folders[@]}" -newer "$1" \( -name '*.rt' -o -name '*.antt' -o -type d \) -print -quit 2>/dev/null
 }
 
 build() { # build NAME PROGRAM
@@ -24,7 +26,7 @@ build() { # build NAME PROGRAM
     echo "$1: building the program from the sources as they are, which proves every crate below it first: some minutes from nothing" >&2
     begun=$(mktemp)
     trap 'rm -f "$begun"' EXIT
-    if ! (cd "$root" && rt check "$1") >&2; then
+    if ! "$root/tools/program" "$1" >&2; then
         echo "$1: the check did not pass, so there is no program to run" >&2
         exit 2
     fi

@@ -10,7 +10,6 @@ use Rattle.site.specs.declared.Answer.{Answer}
 use Rattle.site.specs.declared.Answer.TheVariants.{Done, Refused}
 use Rattle.text.specs.Line.{line_with, message_line, shown_status, shown_stamp}
 use Rattle.text.specs.Lines.{sent_messages, line_bytes, line_next}
-use Rattle.arbiter_steps.specs.declared.Step.{Step}
 use Rattle.arbiter_steps.specs.Steps.{named}
 use Rattle.arbiter_site.specs.Site.{no_arbiter}
 use Rattle.arbiter_lent.specs.Lent.{down_voter, out_of, table_after}

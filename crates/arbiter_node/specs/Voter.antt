@@ -1,7 +1,6 @@
 -- A node of the Arbiter Protocol. "Nodes keep no shares and send (status, t) straight to the breaker, on the reports at which a Peer node shares and on each share
 -- timeout" (§3 of 02): it is 01's node, of which the phase is kept and the last clock, with no stamp being resent. It sends no command, and so has no
 -- second pair that it could return to (§9 of 02).
-use Rattle.std.specs.Prelude.{ℕ}
 use Rattle.time.specs.declared.Dts.{Dts}
 use Rattle.store.specs.Store.{empty}
 use Rattle.pairs.specs.declared.Known.{Known}

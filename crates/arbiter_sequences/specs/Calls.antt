@@ -1,12 +1,12 @@
 -- From a call to the theorems: what `arbiter_lent::step` promises is one more step of a sequence, so that whatever is said of every sequence (`Always`) holds of a
 -- caller's own, told by the steps that it gave and the answers that it got.
-use Rattle.std.specs.Prelude.{◌≡◌, List, ◌∷◌}
+use Rattle.std.specs.Prelude.{List, ◌∷◌}
 use Rattle.std.proofs.Common.{sym, subst}
 use Rattle.site.specs.declared.Answer.{Answer}
 use Rattle.arbiter_steps.specs.declared.Step.{Step}
 use Rattle.arbiter_node.specs.declared.Voter.{Voter}
 use Rattle.arbiter_site.specs.declared.Arbiter.{Arbiter}
-use Rattle.arbiter_lent.specs.Lent.{out_of, table_after, Said}
+use Rattle.arbiter_lent.specs.Lent.{out_of, Said}
 use Rattle.arbiter_sequences.specs.History.{Entry}
 use Rattle.arbiter_sequences.specs.Moments.{Moment, Reached, then, entry}
 

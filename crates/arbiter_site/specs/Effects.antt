@@ -1,6 +1,5 @@
 -- What each step does where none of its tests fails: site and record afterwards, and what is sent. What 01's site does in a step that both have is 01's.
 use Rattle.std.specs.Prelude.{ℕ}
-use Rattle.time.specs.declared.Dts.{Dts}
 use Rattle.store.specs.declared.Store.{Store}
 use Rattle.store.specs.Store.{empty}
 use Rattle.pairs.specs.declared.Known.{Known}
@@ -13,7 +12,6 @@ use Rattle.site.specs.declared.Sent.{Sent}
 use Rattle.site.specs.declared.Answer.TheVariants.{Done, Refused}
 use Rattle.site.specs.Answers.{silence}
 use Rattle.effects.specs.Effects.{with_made, with_breaker, started_site, ticked, turned}
-use Rattle.arbiter_steps.specs.declared.Message.{Message}
 use Rattle.arbiter_steps.specs.declared.Step.{Step}
 use Rattle.arbiter_steps.specs.declared.Step.TheVariants.{Start, Tick, AtNode, Life, AtBreaker}
 use Rattle.arbiter_node.specs.declared.Voter.{Voter}

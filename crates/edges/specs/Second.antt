@@ -21,7 +21,6 @@ use Rattle.combining.specs.Combining.{combined, put_all, finished}
 use Rattle.events.specs.Events.{given_up, resend_timed_out}
 use Rattle.acting.specs.Acting.{changed_by, stored, acted}
 use Rattle.breaker.specs.Breaker.{started, changes_sound, breaker_sound}
-use Rattle.steps.specs.declared.Event.{Event}
 use Rattle.steps.specs.declared.Event.TheVariants.{Report, ResendTimeout}
 use Rattle.steps.specs.declared.Step.TheVariants.{AtNode}
 use Rattle.site.specs.Site.{sets_sound, site_sound, actor_sound}

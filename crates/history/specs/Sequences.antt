@@ -1,5 +1,5 @@
 -- Every sequence of steps, "each given the site and table the last one left", and what is said of the steps of one.
-use Rattle.std.specs.Prelude.{ℕ, List, [], ◌∷◌}
+use Rattle.std.specs.Prelude.{List, [], ◌∷◌}
 use Rattle.site.specs.declared.Answer.{Answer}
 use Rattle.history.specs.History.{Entry, Accepted}
 

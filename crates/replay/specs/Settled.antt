@@ -11,7 +11,7 @@ use Rattle.loans.specs.Loans.{made_first}
 use Rattle.lent.specs.Lent.{Said, SaidWithin}
 use Rattle.writer.specs.declared.Written.{Written}
 use Rattle.writer.specs.Writing.{written, bytes_after}
-use Rattle.text.specs.Lines.{line_bytes, line_next, line_text}
+use Rattle.text.specs.Lines.{line_bytes, line_next}
 use Rattle.turns.specs.declared.Run.{Run}
 use Rattle.turns.specs.declared.Ran.{Ran}
 use Rattle.turns.specs.Blocks.{Block, block_settled}

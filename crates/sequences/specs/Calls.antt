@@ -1,14 +1,14 @@
 -- From a call to the theorems: what `lent::step` and `lent::step_within` promise is one more step of a sequence, so that whatever is said of every sequence
 -- (`Always`) holds of a caller's own, told by the steps that it gave and the answers that it got.
-use Rattle.std.specs.Prelude.{ℕ, ◌≤◌, ◌≡◌, refl, List, ◌∷◌, ◌++◌, length, take, drop}
+use Rattle.std.specs.Prelude.{ℕ, List, ◌∷◌, take}
 use Rattle.std.proofs.Common.{sym, ap, subst, ◌∙◌}
 use Rattle.node.specs.declared.Node.{Node}
 use Rattle.steps.specs.declared.Step.{Step}
 use Rattle.site.specs.declared.Site.{Site}
 use Rattle.site.specs.declared.Answer.{Answer}
-use Rattle.lent.specs.Lent.{out_of, table_after, Said, SaidWithin}
+use Rattle.lent.specs.Lent.{out_of, Said, SaidWithin}
 use Rattle.sequences.specs.History.{Entry}
-use Rattle.sequences.specs.Moments.{Moment, Reached, then, entry, after_step}
+use Rattle.sequences.specs.Moments.{Moment, Reached, then, entry}
 use Rattle.sequences.specs.laws.Lengths.{take_same}
 
 -- a caller's site and table

@@ -11,7 +11,7 @@ use Rattle.pairs.specs.Shares.{delivered_from}
 use Rattle.steps.specs.declared.Beginning.{Beginning}
 use Rattle.steps.specs.declared.Step.{Step}
 use Rattle.steps.specs.declared.Step.TheVariants.{Start, Tick, AtNode, Life, AtBreaker}
-use Rattle.steps.specs.Named.{StepKind, report, ack, query, down, up, said_by_turn, named, is_kind, among}
+use Rattle.steps.specs.Named.{StepKind, report, ack, query, down, up, said_by_turn, named, among}
 use Rattle.history.specs.History as Of
 use Rattle.history.specs.History.{those}
 pub use Rattle.history.specs.History.{next_number}

@@ -1,7 +1,6 @@
 -- The state is the history's: over every sequence, counted from the last accepted Start, each field of the site and of every record is what Told.antt says.
 -- And what is sent, and what a refused step leaves.
-use Rattle.std.specs.Prelude.{ℕ, ◌≤◌, ◌<◌, ◌≡◌, Bool, true, ◌&&◌, cond, List, [], ◌∷◌, ◌++◌}
-use Rattle.std.proofs.Math.Option.{some}
+use Rattle.std.specs.Prelude.{ℕ, ◌≤◌, ◌<◌, ◌≡◌, true, ◌&&◌, List, [], ◌∷◌, ◌++◌}
 use Rattle.time.specs.declared.Dts.{Dts}
 use Rattle.time.specs.Fresh.{fresh_at, fresh}
 use Rattle.senders.specs.Masks.{is_in}

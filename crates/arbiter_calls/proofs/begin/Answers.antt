@@ -1,6 +1,5 @@
 use Rattle.tables.specs.Tables.{table}
 use Rattle.arbiter_calls.specs.Runs.{first_run}
-use Rattle.std.proofs.Common.{rules}
 use Rattle.arbiter_calls.proofs.begin.Goals as goal
 
 pub returns : goal.returns

@@ -1,4 +1,4 @@
-use Rattle.std.proofs.Common.{rules, eq-eqb, ne_eqb}
+use Rattle.std.proofs.Common.{eq-eqb, ne_eqb}
 use Rattle.arbiter_calls.specs.Calls.{step_of}
 use Rattle.arbiter_calls.proofs.step_of.Goals as goal
 

@@ -1,5 +1,4 @@
 use Rattle.arbiter_calls.specs.laws.CallLaws.{took-malformed, took-call}
-use Rattle.std.proofs.Common.{rules}
 use Rattle.arbiter_calls.proofs.take.Goals as goal
 
 pub returns-in_default : goal.returns-in_default

@@ -1,5 +1,5 @@
 -- Laws over plain variables, which the functions' proofs cite.
-use Rattle.std.specs.Prelude.{◌≡◌, ℕ, true, false, List, refl}
+use Rattle.std.specs.Prelude.{◌≡◌, ℕ, true, false, List}
 use Rattle.std.proofs.Math.Path.{sym, ap}
 use Rattle.std.proofs.Common.{ap₂, ◌∙◌}
 use Rattle.pairs.specs.declared.Pair.{Pair}
@@ -14,11 +14,10 @@ use Rattle.arbiter_steps.specs.declared.Step.{Step}
 use Rattle.arbiter_steps.specs.Steps.{named}
 use Rattle.arbiter_node.specs.declared.Voter.{Voter}
 use Rattle.arbiter_site.specs.declared.Arbiter.{Arbiter}
-use Rattle.arbiter_lent.specs.Lent.{out_of, table_after, Said}
+use Rattle.arbiter_lent.specs.Lent.{Said}
 use Rattle.arbiter_calls.specs.declared.Found.{Found}
 use Rattle.arbiter_calls.specs.declared.Found.TheVariants.{Call, Malformed}
 use Rattle.arbiter_calls.specs.declared.Run.{Run}
-use Rattle.arbiter_calls.specs.declared.Ran.{Ran}
 use Rattle.arbiter_calls.specs.Calls.{read_as}
 use Rattle.arbiter_calls.specs.Runs.{shared_text, done_text, answer_text, malformed_text, next_line, after, line_for, ends, ran_of, Took}
 

@@ -1,5 +1,4 @@
 use Rattle.arbiter_lent.proofs.Others.{no_start}
-use borrow.Author.Rules.{rules}
 use Rattle.arbiter_lent.proofs.compromised_of.Goals as goal
 
 pub returns-in_default : goal.returns-in_default

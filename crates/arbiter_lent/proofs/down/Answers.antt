@@ -1,6 +1,5 @@
 use mathlib.Core.Path.{◌∙◌, ap}
 use Rattle.arbiter_node.specs.Voter.{of_peer}
-use borrow.Author.Rules.{rules}
 use Rattle.arbiter_lent.proofs.down.Goals as goal
 
 pub returns : goal.returns

@@ -1,7 +1,6 @@
 use mathlib.Core.Path.{◌∙◌, sym, ap}
 use Rattle.loans.specs.laws.LoanLaws.{first_above}
 use Rattle.arbiter_node.specs.Voter.{of_peer}
-use borrow.Author.Rules.{rules}
 use Rattle.arbiter_lent.proofs.fresh.Goals as goal
 
 pub returns : goal.returns

@@ -1,6 +1,5 @@
 use mathlib.Core.Path.{refl}
 use Rattle.arbiter_lent.proofs.Others.{no_start}
-use borrow.Author.Rules.{rules}
 use Rattle.arbiter_lent.proofs.starts.Goals as goal
 
 pub returns-in-Start : goal.returns-in-Start

@@ -1,4 +1,3 @@
-use borrow.Author.Rules.{rules}
 use Rattle.arbiter_node.proofs.first.Goals as goal
 
 pub returns-in-One : goal.returns-in-One

@@ -1,4 +1,3 @@
-use borrow.Author.Rules.{rules}
 use Rattle.arbiter_node.proofs.first_record.Goals as goal
 
 pub returns : goal.returns

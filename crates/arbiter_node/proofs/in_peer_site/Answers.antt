@@ -1,4 +1,3 @@
-use borrow.Author.Rules.{rules}
 use Rattle.arbiter_node.proofs.in_peer_site.Goals as goal
 
 pub returns : goal.returns

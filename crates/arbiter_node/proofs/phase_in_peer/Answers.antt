@@ -1,4 +1,3 @@
-use borrow.Author.Rules.{rules}
 use Rattle.arbiter_node.proofs.phase_in_peer.Goals as goal
 
 pub returns-in-Starting : goal.returns-in-Starting

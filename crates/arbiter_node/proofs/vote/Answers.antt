@@ -1,5 +1,4 @@
 use Rattle.arbiter_node.specs.Voter.{voted}
-use borrow.Author.Rules.{rules}
 use Rattle.arbiter_node.proofs.vote.Goals as goal
 
 pub returns : goal.returns

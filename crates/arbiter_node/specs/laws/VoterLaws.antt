@@ -1,6 +1,6 @@
 -- What an event leaves of a node: r is that of 01's node, and the message is of the status that the relay said last, with the node's own clock for its stamp.
 -- And what refusal 16 asks of its record: that its numbers are in range, and no more.
-use Rattle.std.specs.Prelude.{ℕ, ◌≡◌, refl, Bool, false, not, ◌&&◌, ◌||◌, ◌⊎◌, eqb}
+use Rattle.std.specs.Prelude.{ℕ, ◌≡◌, refl, Bool, false, not, ◌&&◌, ◌||◌, eqb}
 use Rattle.std.proofs.Math.Path.{sym, ap}
 use Rattle.std.proofs.Common.{◌∙◌, inl, inr, arith, eqb-true, le-leb}
 use Rattle.std.proofs.Math.Bool.{true, and-eq-true_iff}
@@ -8,12 +8,10 @@ use Rattle.std.proofs.lemmas.Bool.{false≢true}
 use Rattle.std.proofs.Math.Option.{Option, some}
 use Rattle.refusals.specs.laws.Bools.{and-true}
 use Rattle.time.specs.declared.Dts.{Dts}
-use Rattle.time.specs.Fresh.{next}
 use Rattle.pairs.specs.declared.Pair.{Pair}
 use Rattle.pairs.specs.declared.Known.{Known}
 use Rattle.pairs.specs.declared.Known.TheVariants.{Yes, No}
 use Rattle.pairs.specs.declared.Pairs.{Pairs}
-use Rattle.pairs.specs.declared.Pairs.TheVariants.{Zero, One, Two}
 use Rattle.pairs.specs.Pair.{pair, listed_known, has}
 use Rattle.node.specs.declared.Phase.{Phase as PeerPhase}
 use Rattle.node.specs.declared.Phase.TheVariants as Peer

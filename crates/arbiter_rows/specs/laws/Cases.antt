@@ -14,7 +14,6 @@ use Rattle.store.specs.laws.WithinLaws.{empty-within}
 use Rattle.steps.specs.declared.Turn.TheVariants as Turn
 use Rattle.steps.specs.Named.{StepKind, command, is_kind}
 use Rattle.node.specs.Asked.{known_sound, node_in_range, node_sound}
-use Rattle.site.specs.declared.Answer.{Answer}
 use Rattle.site.specs.Site.{n, site_sound}
 use Rattle.site.specs.Answers.{number_of}
 use Rattle.site.specs.laws.Answers.{done-number}

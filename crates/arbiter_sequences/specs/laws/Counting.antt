@@ -1,11 +1,11 @@
 -- Who is in the breaker's pool is whoever is counted, told by what is held.
-use Rattle.std.specs.Prelude.{ℕ, ◌+◌, ◌^◌, ◌≤◌, ◌<◌, ◌≡◌, Bool, ◌&&◌, ◌||◌, List, [], ◌∷◌, ltb}
+use Rattle.std.specs.Prelude.{ℕ, ◌^◌, ◌≤◌, ◌<◌, ◌≡◌, Bool, ◌&&◌, ◌||◌, List, [], ◌∷◌, ltb}
 use Rattle.std.proofs.Math.Path.{refl}
 use Rattle.std.proofs.Common.{sym, ap, ◌∙◌, arith, ltb-true, lt-ltb}
 use Rattle.std.proofs.Math.Bool.{true, false, and-eq-true_iff}
 use Rattle.std.proofs.lemmas.Bool.{false≢true}
 use Rattle.time.specs.declared.Dts.{Dts}
-use Rattle.time.specs.Fresh.{fresh, window}
+use Rattle.time.specs.Fresh.{fresh}
 use Rattle.time.specs.laws.Fresh.{latest_clock, fresh-ahead}
 use Rattle.senders.specs.Sets.{count_below}
 use Rattle.senders.specs.laws.Sets.{count-ext, count-above}

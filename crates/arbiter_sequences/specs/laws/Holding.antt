@@ -1,14 +1,14 @@
 -- What the breaker of a site keeps of the history: a step elsewhere leaves it, and a message moves it as it should.
-use Rattle.std.specs.Prelude.{ℕ, ◌+◌, ◌^◌, ◌≤◌, ◌<◌, ◌≡◌, Bool, false, ◌&&◌, ◌||◌, cond, ◌⊎◌, List, [], ◌∷◌, ◌++◌, eqb, leb}
+use Rattle.std.specs.Prelude.{ℕ, ◌+◌, ◌^◌, ◌≤◌, ◌<◌, ◌≡◌, Bool, false, ◌&&◌, ◌||◌, cond, ◌⊎◌, List, [], ◌∷◌, ◌++◌, eqb}
 use Rattle.std.proofs.Math.Path.{refl, ap, subst}
 use Rattle.std.proofs.Common.{sym, ap₂, ◌∙◌, inl, inr, le_refl, arith}
 use Rattle.std.proofs.Math.Bool.{true, and-eq-true_iff}
 use Rattle.std.proofs.lemmas.Bool.{false≢true}
-use borrow.Author.Tests.{eqb-true, leb-true, leb-false, le-leb}
+use borrow.Author.Tests.{eqb-true, leb-true, leb-false}
 use Rattle.refusals.specs.laws.Bools.{right}
 use Rattle.time.specs.declared.Dts.{Dts}
 use Rattle.time.specs.Fresh.{fresh, window}
-use Rattle.time.specs.laws.Fresh.{latest_clock, fresh-ahead, fresh-same}
+use Rattle.time.specs.laws.Fresh.{fresh-ahead, fresh-same}
 use Rattle.senders.specs.Sets.{count_below, both}
 use Rattle.senders.specs.laws.Sets.{count-within, count-more}
 use Rattle.senders.specs.Masks.{room, is_in, size, enough}
@@ -30,10 +30,8 @@ use Rattle.breaker.specs.declared.Breaker.{Breaker}
 use Rattle.breaker.specs.Breaker.{answered, changed}
 use Rattle.steps.specs.declared.Beginning.{Beginning}
 use Rattle.site.specs.declared.Sent.{Sent}
-use Rattle.site.specs.declared.Site.{Site}
 use Rattle.site.specs.Site.{nodes}
 use Rattle.effects.specs.Effects.{with_breaker}
-use Rattle.refusing.specs.Tests.{can_deliver}
 use Rattle.history.specs.laws.Holding.{held-later}
 use Rattle.arbiter_steps.specs.declared.Message.{Message}
 use Rattle.arbiter_steps.specs.declared.Step.{Step}
@@ -44,7 +42,7 @@ use Rattle.arbiter_breaker.specs.laws.ArbitratingLaws.{received-clock, received-
 use Rattle.arbiter_site.specs.declared.Arbiter.{Arbiter}
 use Rattle.arbiter_site.specs.laws.Accepted.{Heard}
 use Rattle.arbiter_sequences.specs.History.{Accepted, Change, brought, deliveries, held_of, held_told, breaker_clock, changes_in, breaker_pair, wanted, is_counted}
-use Rattle.arbiter_sequences.specs.Demand.{Correct, SentIt, CountedAt, Enough, IsLargest, ChangesAtOnceHere, ChangesAtOnceBy, SentByACorrectOne, AboveItsOwn, Rising, Earlier, further, Each, EachStep}
+use Rattle.arbiter_sequences.specs.Demand.{SentIt, CountedAt, Enough, IsLargest, ChangesAtOnceBy, SentByACorrectOne, AboveItsOwn, Rising, Earlier, further, Each, EachStep}
 use Rattle.arbiter_sequences.specs.laws.Counting.{as_many}
 
 abbrev pub done_with : ℕ → Step → Sent → Accepted

@@ -29,8 +29,6 @@ use Rattle.steps.specs.declared.Turn.{Turn}
 use Rattle.steps.specs.declared.Turn.TheVariants.{Down, Up}
 use Rattle.steps.specs.Named.{said_by}
 use Rattle.acting.specs.laws.Relay.{reports, status_in, relay_after}
-use Rattle.site.specs.declared.Site.{Site}
-use Rattle.site.specs.declared.Sent.{Sent}
 use Rattle.site.specs.Site.{nodes, g, most_f, most_k}
 use Rattle.site.specs.Answers.{silence}
 use Rattle.refusing.specs.laws.Accepted.{Placed, begins, happens, turns}

@@ -3,7 +3,7 @@
 use Prim.Native.Nat.{ℕ, ◌+◌, ◌-◌, ◌≤◌, ◌<◌}
 use Rattle.std.specs.Prelude.{◌≡◌, Bool, ◌&&◌, ◌||◌, cond, ◌⊎◌, List, ◌∷◌, eqb, leb, ltb, length, set, drop}
 use Rattle.std.proofs.Math.Path.{refl, sym, subst}
-use Rattle.std.proofs.Common.{ap, ◌∙◌, inl, inr, arith, lit<, length-set, get_or-set_same, get_or-set_other}
+use Rattle.std.proofs.Common.{◌∙◌, inl, inr, arith, lit<, length-set, get_or-set_same, get_or-set_other}
 use Rattle.std.proofs.Math.Bool.{true, false, and-eq-true_iff}
 use Rattle.std.proofs.Math.Option.{Option, none, some}
 use Rattle.std.proofs.Math.ListN.{get_or}
@@ -27,7 +27,7 @@ use Rattle.node.specs.declared.Phase.TheVariants as Peer
 use Rattle.node.specs.Asked.{node_in_range, node_sound}
 use Rattle.node.specs.laws.Soundness.{SoundPhase, parts, whole}
 use Rattle.breaker.specs.declared.Breaker.{Breaker}
-use Rattle.breaker.specs.Breaker.{repeats, answered, changed, after_command, breaker_sound}
+use Rattle.breaker.specs.Breaker.{answered, changed, after_command, breaker_sound}
 use Rattle.breaker.specs.laws.Soundness.{parts as breaker-parts}
 use Rattle.steps.specs.declared.Beginning.{Beginning}
 use Rattle.steps.specs.declared.Turn.{Turn}
@@ -39,7 +39,7 @@ use Rattle.site.specs.Site.{nodes, n, site_sound, actor_sound}
 use Rattle.site.specs.laws.Sound.{tested}
 use Rattle.refusing.specs.Tests.{unless_start}
 use Rattle.refusing.specs.laws.Accepted.{begins, begins-within, ticks, happens, turns}
-use Rattle.effects.specs.Effects.{with_breaker, started_site, first_record, ticked, turned}
+use Rattle.effects.specs.Effects.{with_breaker, started_site, first_record, ticked}
 use Rattle.effects.specs.laws.Soundness.{first-intact, begun-sound, ticked-sound, noted-sound, turned-sound, commanded-sound}
 use Rattle.loans.specs.laws.LoanLaws.{front, fronted-length}
 use Rattle.arbiter_steps.specs.declared.Event.{Event}

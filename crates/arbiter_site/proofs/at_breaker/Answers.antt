@@ -2,7 +2,6 @@ use mathlib.Core.Path.{◌∙◌}
 use Rattle.arbiter_site.specs.laws.StepLaws.{when-refused, when-done}
 use Rattle.arbiter_site.specs.laws.Parts.{cut-message}
 use Rattle.arbiter_site.specs.Effects.{effect_of}
-use borrow.Author.Rules.{rules}
 use Rattle.arbiter_site.proofs.at_breaker.Goals as goal
 
 pub returns-then-refusal-ne0 : goal.returns-then-refusal-ne0

@@ -1,5 +1,4 @@
 use Rattle.arbiter_site.specs.Site.{arbiter_sound}
-use borrow.Author.Rules.{rules}
 use Rattle.arbiter_site.proofs.is_sound.Goals as goal
 
 pub returns : goal.returns

@@ -1,4 +1,3 @@
-use borrow.Author.Rules.{rules}
 use Rattle.arbiter_site.proofs.is_sound_at.Goals as goal
 
 pub returns : goal.returns

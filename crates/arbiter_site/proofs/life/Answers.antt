@@ -3,7 +3,6 @@ use Rattle.arbiter_site.specs.laws.StepLaws.{when-refused, when-done}
 use Rattle.arbiter_site.specs.laws.Parts.{turn-refused}
 use Rattle.arbiter_site.specs.laws.StepLaws.{turned_as}
 use Rattle.arbiter_site.specs.Effects.{effect_of}
-use borrow.Author.Rules.{rules}
 use Rattle.arbiter_site.proofs.life.Goals as goal
 
 pub returns-then-refusal-ne0 : goal.returns-then-refusal-ne0

@@ -1,4 +1,3 @@
-use borrow.Author.Rules.{rules}
 use Rattle.arbiter_site.proofs.shares_of.Goals as goal
 
 pub returns-in-Yes : goal.returns-in-Yes

@@ -1,4 +1,3 @@
-use borrow.Author.Rules.{rules}
 use Rattle.arbiter_site.proofs.step.Goals as goal
 
 pub returns-in-Start : goal.returns-in-Start

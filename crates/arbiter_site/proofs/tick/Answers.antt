@@ -3,7 +3,6 @@ use Rattle.arbiter_site.specs.laws.StepLaws.{when-refused, when-done}
 use Rattle.arbiter_site.specs.laws.Parts.{cut-tick}
 use Rattle.arbiter_site.specs.Effects.{effect_of}
 use Rattle.effects.specs.Effects.{ticked}
-use borrow.Author.Rules.{rules}
 use Rattle.arbiter_site.proofs.tick.Goals as goal
 
 pub returns-then-refusal-ne0 : goal.returns-then-refusal-ne0

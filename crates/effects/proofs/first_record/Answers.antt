@@ -1,6 +1,5 @@
 use mathlib.Core.Path.{sym, ◌∙◌}
 use Rattle.effects.specs.Effects.{first_record}
-use borrow.Author.Rules.{rules}
 use Rattle.effects.proofs.first_record.Goals as goal
 
 pub returns-then-is_in : goal.returns-then-is_in

@@ -1,5 +1,4 @@
 use Rattle.effects.specs.Effects.{started_site}
-use borrow.Author.Rules.{rules}
 use Rattle.effects.proofs.fresh_site.Goals as goal
 
 pub returns : goal.returns

@@ -1,4 +1,3 @@
-use borrow.Author.Rules.{rules}
 use Rattle.effects.proofs.no_site.Goals as goal
 
 pub returns : goal.returns

@@ -1,6 +1,5 @@
 use mathlib.Core.Path.{ap, ◌∙◌}
 use Rattle.effects.specs.laws.Parts.{noted_by, none-shared}
-use borrow.Author.Rules.{rules}
 use Rattle.effects.proofs.note.Goals as goal
 
 pub returns-in-Zero : goal.returns-in-Zero

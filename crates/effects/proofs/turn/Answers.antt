@@ -1,4 +1,3 @@
-use borrow.Author.Rules.{rules}
 use Rattle.effects.proofs.turn.Goals as goal
 
 pub returns-in-Down : goal.returns-in-Down

@@ -1,5 +1,4 @@
 use Rattle.lent.proofs.Others.{no_start}
-use borrow.Author.Rules.{rules}
 use Rattle.lent.proofs.compromised_of.Goals as goal
 
 pub returns-in_default : goal.returns-in_default

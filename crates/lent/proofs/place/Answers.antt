@@ -1,4 +1,3 @@
-use borrow.Author.Rules.{rules}
 use Rattle.lent.proofs.place.Goals as goal
 
 pub returns-in-AtNode : goal.returns-in-AtNode

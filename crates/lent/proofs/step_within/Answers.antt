@@ -1,6 +1,5 @@
 use native.Mathlib.Omega.{arith}
 use Rattle.lent.specs.laws.LentLaws.{all-lent, more-lent}
-use borrow.Author.Rules.{rules}
 use Rattle.lent.proofs.step_within.Goals as goal
 
 pub returns : goal.returns

@@ -1,6 +1,5 @@
 use Rattle.refusals.specs.Tests.{refusal}
 use Rattle.refusing.specs.laws.Parts.{taken, report-range, deliver-range, pair-range, ack-range}
-use borrow.Author.Rules.{rules}
 use Rattle.refusing.proofs.ask.Goals as goal
 
 pub returns-in-Report : goal.returns-in-Report

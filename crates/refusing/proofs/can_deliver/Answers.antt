@@ -1,5 +1,4 @@
 use Rattle.store.specs.Held.{held}
-use borrow.Author.Rules.{rules}
 use Rattle.refusing.proofs.can_deliver.Goals as goal
 
 pub returns : goal.returns

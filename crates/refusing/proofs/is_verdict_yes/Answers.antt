@@ -1,4 +1,3 @@
-use borrow.Author.Rules.{rules}
 use Rattle.refusing.proofs.is_verdict_yes.Goals as goal
 
 pub returns : goal.returns

@@ -1,4 +1,3 @@
-use borrow.Author.Rules.{rules}
 use Rattle.refusing.proofs.refuse_start.Goals as goal
 
 pub returns : goal.returns

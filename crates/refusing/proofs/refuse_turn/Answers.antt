@@ -1,6 +1,5 @@
 use Rattle.refusals.specs.laws.Tests.{appended}
 use Rattle.refusing.specs.laws.Parts.{taken}
-use borrow.Author.Rules.{rules}
 use Rattle.refusing.proofs.refuse_turn.Goals as goal
 
 pub returns-in-Down : goal.returns-in-Down

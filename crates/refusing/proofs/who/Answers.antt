@@ -1,5 +1,4 @@
 use Rattle.refusals.specs.laws.Tests.{appended}
-use borrow.Author.Rules.{rules}
 use Rattle.refusing.proofs.who.Goals as goal
 
 pub returns : goal.returns

@@ -1,8 +1,8 @@
 -- The state is the history's, and a refused step changes nothing.
 use Rattle.std.specs.Prelude.{ℕ, ◌≡◌, refl, Bool, true, false, ◌&&◌, ◌||◌, cond, List, [], ◌∷◌, length}
-use Rattle.std.proofs.Common.{sym, ap, ap₂, subst, ◌∙◌, eqb-true}
+use Rattle.std.proofs.Common.{sym, ap, subst, ◌∙◌, eqb-true}
 use Rattle.std.proofs.lemmas.Bool.{false≢true}
-use Rattle.std.proofs.Math.Option.{Option, some}
+use Rattle.std.proofs.Math.Option.{some}
 use Rattle.time.specs.declared.Dts.{Dts}
 use Rattle.time.specs.Fresh.{fresh_at, fresh}
 use Rattle.store.specs.declared.Store.{Store}
@@ -14,7 +14,7 @@ use Rattle.pairs.specs.Pair.{has}
 use Rattle.pairs.specs.laws.KnownLaws.{same_known}
 use Rattle.node.specs.declared.Resend.TheVariants.{Armed}
 use Rattle.node.specs.declared.Phase.{Phase}
-use Rattle.node.specs.Asked.{is_running, known_r, known_b}
+use Rattle.node.specs.Asked.{is_running}
 use Rattle.steps.specs.declared.Beginning.{Beginning}
 use Rattle.steps.specs.declared.Step.{Step}
 use Rattle.steps.specs.declared.Step.TheVariants.{Start}
@@ -30,10 +30,10 @@ use Rattle.effects.specs.Effects.{effect_of}
 use Rattle.stepping.specs.laws.StepLaws.{by_tests, effect-done}
 use Rattle.lent.specs.Lent.{record_of, out_of, table_after, table_after_answer}
 use Rattle.sequences.specs.History.{Entry, Accepted, step_kind, last_start, accepted, at_node, last_report, ends_life, life, one_of, runs, deliveries}
-use Rattle.sequences.specs.Told.{site_clock, shares_of, last_clock_told}
+use Rattle.sequences.specs.Told.{shares_of, last_clock_told}
 use Rattle.sequences.specs.Moments.{Moment, Reached, node_at, holds}
 use Rattle.sequences.specs.Demand.{Always, Correct}
-use Rattle.sequences.specs.State.{SiteAsTold, NodeAsTold, StateAsTold, ResendsB, StartsSilent, RefusedChangesNothing}
+use Rattle.sequences.specs.State.{StateAsTold, ResendsB, StartsSilent, RefusedChangesNothing}
 use Rattle.sequences.specs.laws.Fitting.{runs-told}
 use Rattle.sequences.specs.laws.Reaching.{reached-keeps}
 use Rattle.sequences.specs.laws.StateTold.{reached-told}

@@ -3,24 +3,23 @@ use Rattle.std.specs.Prelude.{ℕ, ◌≤◌, ◌≡◌, refl, true, false, not,
 use Rattle.std.proofs.Common.{sym, ap, ap₂, subst, ◌∙◌}
 use Rattle.std.proofs.Math.Path.{fun_ext}
 use Rattle.std.proofs.lemmas.Bool.{false≢true}
-use Rattle.std.proofs.Math.Option.{none}
 use Rattle.time.specs.declared.Dts.{Dts}
 use Rattle.store.specs.Store.{empty}
 use Rattle.pairs.specs.declared.Pair.{Pair}
 use Rattle.pairs.specs.declared.Known.{Known}
-use Rattle.pairs.specs.Pair.{pair, listed, has}
+use Rattle.pairs.specs.Pair.{listed}
 use Rattle.node.specs.declared.Phase.{Phase}
 use Rattle.node.specs.declared.Phase.TheVariants.{Starting, Running, Down as NotUp}
 use Rattle.node.specs.declared.Node.{Node}
 use Rattle.node.specs.declared.Acted.{Acted}
-use Rattle.node.specs.Asked.{phase_down, phase_running, known_r, known_b}
+use Rattle.node.specs.Asked.{phase_down, phase_running}
 use Rattle.events.specs.Events.{went_down, went_up}
 use Rattle.breaker.specs.declared.Breaker.{Breaker}
 use Rattle.breaker.specs.Breaker.{change_at}
 use Rattle.steps.specs.declared.Event.{Event}
 use Rattle.steps.specs.declared.Turn.TheVariants.{Down, Up}
 use Rattle.steps.specs.declared.Step.TheVariants.{AtNode, Life}
-use Rattle.steps.specs.Named.{query, down, share_timeout, StepKind, said_by, is_kind}
+use Rattle.steps.specs.Named.{query, share_timeout, StepKind, said_by, is_kind}
 use Rattle.acting.specs.Acting.{acted}
 use Rattle.acting.specs.laws.Running.{remembers, goes_on}
 use Rattle.acting.specs.laws.Stores.{clock-of, still-empty}
@@ -31,7 +30,7 @@ use Rattle.told.specs.laws.Ending.{event-known, event-armed}
 use Rattle.site.specs.Answers.{silence}
 use Rattle.refusing.specs.Tests.{phase_takes}
 use Rattle.rows.specs.laws.Telling.{kind-is}
-use Rattle.sequences.specs.History.{Accepted, accepted}
+use Rattle.sequences.specs.History.{Accepted}
 use Rattle.sequences.specs.Told.{is_down_told, last_clock_told}
 use Rattle.sequences.specs.laws.Fitting.{done_with, sent_by}
 

@@ -5,10 +5,7 @@ use Rattle.refusals.specs.laws.Bools.{and-true, and-false}
 use Rattle.tables.specs.Tables.{table, get_d-table}
 use Rattle.time.specs.declared.Dts.{Dts}
 use Rattle.pairs.specs.declared.Pair.{Pair}
-use Rattle.pairs.specs.declared.Known.{Known}
 use Rattle.pairs.specs.declared.Known.TheVariants.{Yes, No}
-use Rattle.breaker.specs.declared.Changes.{Changes}
-use Rattle.breaker.specs.declared.Breaker.{Breaker}
 use Rattle.breaker.specs.Breaker.{most_changes, no_change, pair_at, remembered, change_at}
 use Rattle.sequences.specs.Told.{up_to_eight, changes_of, numbered, numbered_of}
 

@@ -36,8 +36,8 @@ use Rattle.steps.specs.declared.Event.{Event}
 use Rattle.steps.specs.declared.Turn.{Turn}
 use Rattle.steps.specs.declared.Turn.TheVariants.{Down, Up}
 use Rattle.steps.specs.declared.Act.{Act}
-use Rattle.steps.specs.declared.Step.TheVariants.{Start, Tick, AtNode, Life, AtBreaker}
-use Rattle.steps.specs.Named.{ack, down, said_by}
+use Rattle.steps.specs.declared.Step.TheVariants.{Tick, AtNode, Life, AtBreaker}
+use Rattle.steps.specs.Named.{said_by}
 use Rattle.acting.specs.Acting.{acted}
 use Rattle.acting.specs.laws.Running.{remembers}
 use Rattle.told.specs.Telling.{Knows, nothing, knows_after, last_of}
@@ -47,7 +47,7 @@ use Rattle.site.specs.Site.{nodes, g}
 use Rattle.site.specs.Answers.{silence}
 use Rattle.refusing.specs.Tests.{phase_takes}
 use Rattle.effects.specs.Effects.{with_made, with_breaker, ticked, turned}
-use Rattle.sequences.specs.History.{Accepted, Change, accepted, breaker_status, unless_had, changes_in, concerns, at_node}
+use Rattle.sequences.specs.History.{Accepted, Change, breaker_status, unless_had, changes_in, concerns, at_node}
 use Rattle.sequences.specs.Told.{pair_of, first_or, changes_of, site_clock, change_pairs, breaker_pair, breaker_told, numbered_of, told_to, shares_of, is_down_told}
 use Rattle.sequences.specs.Demand.{Correct}
 use Rattle.sequences.specs.laws.Fitting.{done_with, sent_by}

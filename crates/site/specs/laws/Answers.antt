@@ -1,5 +1,5 @@
 -- Laws of what Answers.antt defines, and the answer by its number.
-use Rattle.std.specs.Prelude.{ℕ, ◌≡◌, refl, true, false, cond, eqb}
+use Rattle.std.specs.Prelude.{ℕ, ◌≡◌, refl, true, cond, eqb}
 use Rattle.std.proofs.lemmas.Bool.{false≢true}
 use Rattle.site.specs.declared.Sent.{Sent}
 use Rattle.site.specs.declared.Answer.{Answer}

@@ -3,7 +3,6 @@ use mathlib.Core.Path.{ap, ◌∙◌}
 use native.Mathlib.Omega.{arith}
 use Rattle.loans.specs.Loans.{first_records}
 use Rattle.starting.specs.laws.Begun.{begun-refused, begun-done, begun-enough}
-use borrow.Author.Rules.{rules}
 use Rattle.starting.proofs.start.Goals as goal
 
 pub returns-then-refusal-ne0 : goal.returns-then-refusal-ne0

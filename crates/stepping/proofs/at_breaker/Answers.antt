@@ -1,6 +1,5 @@
 use mathlib.Core.Path.{◌∙◌}
 use Rattle.stepping.specs.laws.Given.{breaker-stepped}
-use borrow.Author.Rules.{rules}
 use Rattle.stepping.proofs.at_breaker.Goals as goal
 
 pub returns : goal.returns

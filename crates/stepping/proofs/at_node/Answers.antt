@@ -1,6 +1,5 @@
 use mathlib.Core.Path.{◌∙◌}
 use Rattle.stepping.specs.laws.Given.{node-stepped}
-use borrow.Author.Rules.{rules}
 use Rattle.stepping.proofs.at_node.Goals as goal
 
 pub returns : goal.returns

@@ -1,7 +1,6 @@
 use mathlib.Core.Path.{ap, ◌∙◌}
 use Rattle.site.specs.laws.Answers.{answer_of}
 use Rattle.stepping.specs.laws.Given.{life-stepped}
-use borrow.Author.Rules.{rules}
 use Rattle.stepping.proofs.life.Goals as goal
 
 pub returns : goal.returns

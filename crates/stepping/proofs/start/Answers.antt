@@ -1,7 +1,6 @@
 use mathlib.Core.Path.{ap, ◌∙◌}
 use Rattle.site.specs.laws.Answers.{answer_of}
 use Rattle.stepping.specs.laws.Given.{start-refused-whole, start-done-whole}
-use borrow.Author.Rules.{rules}
 use Rattle.stepping.proofs.start.Goals as goal
 
 pub returns-then-refusal-ne0 : goal.returns-then-refusal-ne0

@@ -1,7 +1,6 @@
 use mathlib.Core.Path.{refl}
 use Rattle.text.specs.laws.LineLaws.{puts-as}
 use Rattle.text.specs.laws.Decimal.{one-digit}
-use borrow.Author.Rules.{rules}
 use Rattle.text.proofs.put_digit.Goals as goal
 
 pub returns : goal.returns

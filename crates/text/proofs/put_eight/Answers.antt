@@ -3,7 +3,6 @@ use native.Mathlib.Omega.{arith}
 use Rattle.text.specs.Puts.{then}
 use Rattle.text.specs.laws.LineLaws.{puts-as}
 use Rattle.text.specs.laws.Decimal.{length-spelled, spelled-parts}
-use borrow.Author.Rules.{rules}
 use Rattle.text.proofs.put_eight.Goals as goal
 
 pub put_four-requires : goal.put_four-requires

@@ -5,7 +5,6 @@ use lib.Dec.{lit<}
 use Rattle.text.specs.Puts.{then}
 use Rattle.text.specs.laws.LineLaws.{puts-as}
 use Rattle.text.specs.laws.Decimal.{length-below, decimal-parts, decimal-is}
-use borrow.Author.Rules.{rules}
 use Rattle.text.proofs.put_few.Goals as goal
 
 pub returns-then-n-lt100 : goal.returns-then-n-lt100

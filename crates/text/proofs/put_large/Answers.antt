@@ -5,7 +5,6 @@ use lib.Dec.{lit<}
 use Rattle.text.specs.Puts.{then}
 use Rattle.text.specs.laws.LineLaws.{puts-as}
 use Rattle.text.specs.laws.Decimal.{length-spelled, length-below, decimal-parts}
-use borrow.Author.Rules.{rules}
 use Rattle.text.proofs.put_large.Goals as goal
 
 pub put_eight-requires : goal.put_eight-requires

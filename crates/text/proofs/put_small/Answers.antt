@@ -5,7 +5,6 @@ use lib.Dec.{lit<}
 use Rattle.text.specs.Puts.{then}
 use Rattle.text.specs.laws.LineLaws.{puts-as}
 use Rattle.text.specs.laws.Decimal.{length-below, decimal-parts}
-use borrow.Author.Rules.{rules}
 use Rattle.text.proofs.put_small.Goals as goal
 
 pub put_four-requires : goal.put_four-requires

@@ -5,7 +5,6 @@ use native.Mathlib.Omega.{arith}
 use lib.ListN.{length-set}
 use Rattle.text.specs.laws.LineLaws.{puts-as}
 use Rattle.text.specs.laws.Decimal.{two_digits}
-use borrow.Author.Rules.{rules}
 use Rattle.text.proofs.put_two.Goals as goal
 
 pub bounds-out-at-2 : goal.bounds-out-at-2

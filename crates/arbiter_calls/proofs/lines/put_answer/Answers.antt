@@ -1,4 +1,3 @@
-use Rattle.std.proofs.Common.{rules}
 use Rattle.arbiter_calls.proofs.lines.put_answer.Goals as goal
 
 pub returns-in-Done : goal.returns-in-Done

@@ -1,5 +1,4 @@
 use Rattle.arbiter_calls.specs.laws.CallLaws.{done_none, done-one, done-two}
-use Rattle.std.proofs.Common.{rules}
 use Rattle.arbiter_calls.proofs.lines.put_done.Goals as goal
 
 pub returns-in-Zero : goal.returns-in-Zero

@@ -1,4 +1,3 @@
-use Rattle.std.proofs.Common.{rules}
 use Rattle.arbiter_calls.proofs.lines.put_malformed.Goals as goal
 
 pub returns : goal.returns

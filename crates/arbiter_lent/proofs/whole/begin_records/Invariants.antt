@@ -1,13 +1,5 @@
-use borrow.Author.Rules.{rules}
-use Prim.Native.Nat.{ℕ, suc, ◌+◌, ◌-◌, ◌≤◌, ◌<◌}
-use mathlib.Core.Path.{◌≡◌, ap, ap₂, ◌∙◌}
-use mathlib.Core.List.{List}
-use native.Mathlib.Omega.{arith}
-use lib.ListN.{length, set}
-use Rattle.effects.specs.Effects.{first_record}
-use Rattle.loans.specs.laws.LoanLaws.{fronted-none, fronted-more}
-use Rattle.arbiter_node.specs.declared.Voter.{Voter}
-use Rattle.arbiter_node.specs.Voter.{of_peer}
+use Prim.Native.Nat.{◌-◌, ◌≤◌}
+use mathlib.Core.Path.{◌≡◌}
 use Rattle.arbiter_lent.specs.Lent.{first_records}
 use Rattle.arbiter_lent.proofs.whole.begin_records.Given as goal
 

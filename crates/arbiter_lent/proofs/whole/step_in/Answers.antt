@@ -4,7 +4,6 @@ use Rattle.arbiter_lent.specs.laws.InTurn.{index_of, compromised_of}
 use Rattle.arbiter_lent.specs.laws.LentLaws.{made-enough}
 use Rattle.arbiter_lent.specs.laws.TurnLaws.{all_said}
 use Rattle.arbiter_lent.specs.laws.Whole.{no_more, few, long}
-use borrow.Author.Rules.{rules}
 use Rattle.arbiter_lent.proofs.whole.step_in.Goals as goal
 
 pub returns-then-n-eq0 : goal.returns-then-n-eq0

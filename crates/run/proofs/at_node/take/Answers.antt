@@ -1,4 +1,4 @@
-use Rattle.std.proofs.Common.{◌&&◌, sym, ◌∙◌, ap₂, rules}
+use Rattle.std.proofs.Common.{◌&&◌, sym, ◌∙◌, ap₂}
 use Rattle.run.specs.laws.Arms.{take-refused, take-quiet, take-loud}
 use Rattle.run.proofs.at_node.take.Goals as goal
 

@@ -1,5 +1,4 @@
 use Rattle.run.specs.laws.Arms.{line_as, other-shown}
-use Rattle.std.proofs.Common.{rules}
 use Rattle.run.proofs.lines.put_other.Goals as goal
 
 pub returns : goal.returns

@@ -1,5 +1,4 @@
 use Rattle.run.specs.laws.Arms.{line_as, told-quiet, told-loud}
-use Rattle.std.proofs.Common.{rules}
 use Rattle.run.proofs.lines.put_told.Goals as goal
 
 pub returns-then-part-ne0 : goal.returns-then-part-ne0

@@ -1,4 +1,4 @@
-use Rattle.std.proofs.Common.{leb, sym, ◌∙◌, rules}
+use Rattle.std.proofs.Common.{leb, sym, ◌∙◌}
 use Rattle.senders.specs.Masks.{is_in}
 use Rattle.node.specs.Asked.{second_sound}
 use Rattle.site.specs.Site.{nodes}

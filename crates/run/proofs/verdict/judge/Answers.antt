@@ -1,4 +1,4 @@
-use Rattle.std.proofs.Common.{◌≡◌, ℕ, ◌+◌, ◌-◌, ◌<◌, ◌≤◌, length, sym, subst, arith, rules}
+use Rattle.std.proofs.Common.{◌≡◌, ℕ, ◌+◌, ◌<◌, length, sym, subst, arith}
 use Rattle.events.specs.Events.{went_down}
 use Rattle.starting.specs.laws.Judging.{kept, Judging, any-default, judging-begins, judging-more}
 use Rattle.run.proofs.verdict.judge.Goals as goal

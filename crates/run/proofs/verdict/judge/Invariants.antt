@@ -1,6 +1,5 @@
-use Rattle.std.proofs.Common.{◌≡◌, ℕ, ◌+◌, ◌-◌, ◌<◌, ◌≤◌, length, sym, subst, arith, rules}
-use Rattle.events.specs.Events.{went_down}
-use Rattle.starting.specs.laws.Judging.{kept, Judging, any-default, judging-begins, judging-more}
+use Rattle.std.proofs.Common.{◌-◌, ◌≤◌}
+use Rattle.starting.specs.laws.Judging.{kept, Judging}
 use Rattle.run.proofs.verdict.judge.Given as goal
 
 abbrev pub invariant-loop-i : goal.invariant-loop-i

@@ -1,4 +1,4 @@
-use Rattle.std.proofs.Common.{sym, rules}
+use Rattle.std.proofs.Common.{sym}
 use Rattle.run.proofs.verdict.with_fit.Goals as goal
 
 pub returns-then-n-i : goal.returns-then-n-i

@@ -1,5 +1,4 @@
 use Rattle.site.specs.Site.{sets_sound}
-use borrow.Author.Rules.{rules}
 use Rattle.site.proofs.sound.are_sets_sound.Goals as goal
 
 pub returns : goal.returns

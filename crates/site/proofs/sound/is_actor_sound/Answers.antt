@@ -1,5 +1,4 @@
 use Rattle.site.specs.Site.{actor_sound}
-use borrow.Author.Rules.{rules}
 use Rattle.site.proofs.sound.is_actor_sound.Goals as goal
 
 pub returns : goal.returns

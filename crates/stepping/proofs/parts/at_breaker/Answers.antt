@@ -1,5 +1,4 @@
 use Rattle.stepping.specs.laws.Given.{breaker-refused, breaker-done}
-use borrow.Author.Rules.{rules}
 use Rattle.stepping.proofs.parts.at_breaker.Goals as goal
 
 pub returns-then-refusal-ne0 : goal.returns-then-refusal-ne0

@@ -1,5 +1,4 @@
 use Rattle.stepping.specs.laws.Given.{node-refused, node_done}
-use borrow.Author.Rules.{rules}
 use Rattle.stepping.proofs.parts.at_node.Goals as goal
 
 pub returns-then-refusal-ne0 : goal.returns-then-refusal-ne0

@@ -1,5 +1,4 @@
 use Rattle.stepping.specs.laws.Given.{life-refused, life-done}
-use borrow.Author.Rules.{rules}
 use Rattle.stepping.proofs.parts.life.Goals as goal
 
 pub returns-then-refusal-ne0 : goal.returns-then-refusal-ne0

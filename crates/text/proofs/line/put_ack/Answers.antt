@@ -1,5 +1,4 @@
 use Rattle.text.specs.laws.LineLaws.{puts-as, puts-nothing, ack-yes, ack-no}
-use borrow.Author.Rules.{rules}
 use Rattle.text.proofs.line.put_ack.Goals as goal
 
 pub returns-in-Yes : goal.returns-in-Yes

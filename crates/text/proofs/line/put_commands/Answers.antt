@@ -2,7 +2,6 @@ use Rattle.text.specs.laws.LineLaws.{length-lettered, puts-as, puts-nothing, pai
 use native.Mathlib.Omega.{arith}
 use Rattle.site.specs.Answers.{Command}
 use Rattle.text.specs.Puts.{then}
-use borrow.Author.Rules.{rules}
 use Rattle.text.proofs.line.put_commands.Goals as goal
 
 pub put_pair-requires-in-Two : goal.put_pair-requires-in-Two

@@ -1,7 +1,6 @@
 use native.Mathlib.Omega.{arith}
 use Rattle.text.specs.Puts.{then}
 use Rattle.text.specs.laws.Decimal.{length-decimal}
-use borrow.Author.Rules.{rules}
 use Rattle.text.proofs.line.put_head.Goals as goal
 
 pub put_byte-b-requires : goal.put_byte-b-requires

@@ -6,7 +6,6 @@ use borrow.Author.Tests.{leb-true}
 use Rattle.text.specs.Lines.{sent_messages}
 use Rattle.text.specs.Line.{line_with}
 use Rattle.text.specs.laws.LineLaws.{after-head, line-put, line_kept}
-use borrow.Author.Rules.{rules}
 use Rattle.text.proofs.line.put_loud.Goals as goal
 
 pub put_head-space-requires : goal.put_head-space-requires

@@ -5,7 +5,6 @@ use lib.ListN.{length}
 use borrow.Author.Tests.{leb-true}
 use Rattle.text.specs.Line.{message_line}
 use Rattle.text.specs.laws.LineLaws.{after-head, message-put, line_kept}
-use borrow.Author.Rules.{rules}
 use Rattle.text.proofs.line.put_message.Goals as goal
 
 pub put_head-space-requires : goal.put_head-space-requires

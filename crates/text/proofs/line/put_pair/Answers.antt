@@ -1,5 +1,4 @@
 use Rattle.text.specs.Puts.{then}
-use borrow.Author.Rules.{rules}
 use Rattle.text.proofs.line.put_pair.Goals as goal
 
 pub returns : goal.returns

@@ -4,7 +4,6 @@ use Rattle.pairs.specs.Pair.{listed, listed_known}
 use Rattle.site.specs.Answers.{Share, Command, Ack}
 use Rattle.text.specs.Puts.{then}
 use Rattle.text.specs.laws.LineLaws.{puts-as, three-lists, length-shares, length-commands}
-use borrow.Author.Rules.{rules}
 use Rattle.text.proofs.line.put_sent.Goals as goal
 
 pub put_commands-after_commands-requires : goal.put_commands-after_commands-requires

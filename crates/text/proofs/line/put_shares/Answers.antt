@@ -2,7 +2,6 @@ use native.Mathlib.Omega.{arith}
 use Rattle.site.specs.Answers.{Share}
 use Rattle.text.specs.Puts.{then}
 use Rattle.text.specs.laws.LineLaws.{puts-as, puts-nothing, pairs-zero, pairs-one, pairs-two, length-share}
-use borrow.Author.Rules.{rules}
 use Rattle.text.proofs.line.put_shares.Goals as goal
 
 pub put_share-requires-in-Two : goal.put_share-requires-in-Two

@@ -1,5 +1,4 @@
 use native.Mathlib.Omega.{arith}
-use borrow.Author.Rules.{rules}
 use Rattle.text.specs.Lines.{sent_messages}
 use Rattle.text.specs.laws.LineLaws.{tail_none, tail-some, length-sent}
 use Rattle.text.proofs.line.put_tail.Goals as goal

@@ -2,7 +2,6 @@ use native.Mathlib.Omega.{arith}
 use Rattle.text.specs.Puts.{then}
 use Rattle.text.specs.laws.Decimal.{length-decimal}
 use Rattle.text.specs.laws.LineLaws.{length-pair}
-use borrow.Author.Rules.{rules}
 use Rattle.text.proofs.line.put_vote.Goals as goal
 
 pub put_stamped-d-requires : goal.put_stamped-d-requires

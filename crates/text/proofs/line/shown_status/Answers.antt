@@ -1,4 +1,3 @@
-use borrow.Author.Rules.{rules}
 use Rattle.text.proofs.line.shown_status.Goals as goal
 
 pub returns-then-site : goal.returns-then-site
