@@ -1,8 +1,7 @@
 -- Whatever bytes the program was fed, the site and the table that it has come to were reached by a sequence of steps: what holds over every sequence
 -- (crates/arbiter_sequences, specs/Demand.antt) holds of them.
-use Rattle.std.specs.Prelude.{ℕ, ◌≡◌, List, []}
+use Rattle.std.specs.Prelude.{ℕ, List, []}
 use Rattle.std.proofs.Common.{sym, subst}
-use Rattle.arbiter_steps.specs.declared.Step.{Step}
 use Rattle.arbiter_calls.specs.declared.Run.{Run}
 use Rattle.arbiter_calls.specs.declared.Found.{Found}
 use Rattle.arbiter_calls.specs.declared.Found.TheVariants.{Call, Malformed}

@@ -1,6 +1,5 @@
 -- What a turn of the program does, and why it stops.
 use Rattle.std.specs.Prelude.{ℕ, ◌+◌, ◌≡◌, true, false, List, [], ◌∷◌, ◌⊎◌, take}
-use Rattle.arbiter_calls.specs.declared.Run.{Run}
 use Rattle.arbiter_calls.specs.Calls.{read_as}
 use Rattle.arbiter_calls.specs.Runs.{first_run, after, ends}
 use Rattle.arbiter.specs.declared.Progress.{Progress}

@@ -1,8 +1,7 @@
-use mathlib.Core.Path.{◌≡◌, refl}
+use mathlib.Core.Path.{refl}
 use native.Mathlib.Omega.{arith}
-use lib.ListN.{length}
 use borrow.Author.Tests.{not-true, not-false}
-use Rattle.arbiter.specs.laws.MovingLaws.{Went, not_yet, once_more, gone-stopped, gone-all}
+use Rattle.arbiter.specs.laws.MovingLaws.{not_yet, once_more, gone-stopped, gone-all}
 use borrow.Author.Rules.{rules}
 use Rattle.arbiter.proofs.go.Goals as goal
 

@@ -2,7 +2,6 @@ use mathlib.Core.Path.{refl}
 use Rattle.arbiter_calls.specs.laws.Fitting.{fits, stands}
 use Rattle.arbiter.specs.Moving.{nothing-came}
 use Rattle.arbiter.specs.laws.MovingLaws.{as_long, failed, over, on}
-use borrow.Author.Rules.{rules}
 use Rattle.arbiter.proofs.turn.Goals as goal
 
 pub returns-then-count-eq0 : goal.returns-then-count-eq0

@@ -1,9 +1,8 @@
 -- Turn after turn.
-use Rattle.std.specs.Prelude.{ℕ, ◌+◌, ◌-◌, ◌≤◌, ◌<◌, ◌≡◌, refl, Bool, true, false, List, ◌⊎◌, length, take}
+use Rattle.std.specs.Prelude.{ℕ, ◌+◌, ◌-◌, ◌≤◌, ◌<◌, ◌≡◌, refl, Bool, true, false, List, length, take}
 use Rattle.std.proofs.Common.{sym, ◌∙◌, inl, inr, arith, length-take}
 use Rattle.std.proofs.Math.Path.{ap}
 use Rattle.std.proofs.lemmas.Bool.{false≢true}
-use Rattle.arbiter_calls.specs.declared.Run.{Run}
 use Rattle.arbiter_calls.specs.declared.Ran.{Ran}
 use Rattle.arbiter_calls.specs.Calls.{read_as}
 use Rattle.arbiter_calls.specs.Runs.{after, ends, ran_of, Took}
