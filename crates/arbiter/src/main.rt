@@ -9,7 +9,7 @@ ghost use Rattle.arbiter.specs.Moving.{at_first, Turned, Gone};
 
 use arbiter_calls::Run;
 use std::io;
-use std::io::{Read, Stderr, Stdin, Stdout, Write};
+use std::io::{ErrorKind, Read, Stderr, Stdin, Stdout, Write};
 
 // Where the calls come from, where the lines go, and where it is said that a write has failed.
 #[derive(Clone, Copy)]
@@ -39,8 +39,11 @@ fn first() -> Progress
     }
 }
 
-// Says what has failed, and why. Where that can't be said, there is nobody to say it to.
+// Says what has failed, and why, but for a reader of the lines who is gone. Where that can't be said, there is nobody to say it to.
 fn complain(streams: Streams, what: &str, error: io::Error) {
+    if error.kind() == ErrorKind::BrokenPipe {
+        return;
+    }
     let mut errors = streams.errors;
     let _ = writeln!(errors, "{what}: {error}");
 }

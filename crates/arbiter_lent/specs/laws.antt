@@ -2,4 +2,3 @@
 pub mod InTurn
 pub mod LentLaws
 pub mod TurnLaws
-pub mod Whole

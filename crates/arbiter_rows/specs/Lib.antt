@@ -1,4 +1,3 @@
 -- The table of refusals of an Arbiter site, row by row.
 pub mod Conditions
 pub mod Rows
-pub mod laws

@@ -1,3 +1,2 @@
 -- What is shown of the definitions. Nothing here has to be believed.
 pub mod CommandLaws
-pub mod Soundness

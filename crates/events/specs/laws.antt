@@ -1,4 +1,3 @@
 -- What is shown of the definitions. Nothing here has to be believed.
 pub mod EventLaws
 pub mod ReportLaws
-pub mod Soundness

@@ -7,7 +7,6 @@ ghost use Rattle.lent.specs.Lent.{SaidWithin};
 
 use node::Node;
 use site::{Answer, Site};
-use std::io;
 use steps::{Beginning, Step};
 use time::Dts;
 
@@ -40,8 +39,12 @@ fn step_with(site: Site, count: usize, step: Step) -> Larger {
     step_larger(site, [down; 16], 16, step)
 }
 
-fn say(rt: &impl Print, text: &str, number: u64) -> io::Result<()> {
-    print!(rt; "{text}{number}")
+fn say(rt: &impl Print, text: &str, number: u64) {
+    let _ = print!(rt; "{text}{number}");
+}
+
+fn end_line(rt: &impl Print) {
+    let _ = println!(rt; "");
 }
 
 fn number_of(answer: Answer) -> u64 {
@@ -67,7 +70,7 @@ fn set_in(n: [Node; 16]) -> u64 {
 }
 
 // A Start with so many records of nodes that are down.
-fn start_with(rt: &impl Print, f: u8, k: u8, count: usize) -> io::Result<Site> {
+fn start_with(rt: &impl Print, f: u8, k: u8, count: usize) -> Site {
     let site = effects::no_site();
     let step = Step::Start(Beginning {
         f,
@@ -79,40 +82,39 @@ fn start_with(rt: &impl Print, f: u8, k: u8, count: usize) -> io::Result<Site> {
     let whole = step_with(site, count, step);
     let answer = whole.answer;
     let nodes = whole.nodes;
-    say(rt, "Start, n ", site::sound::nodes(f, k) as u64)?;
-    say(rt, ", records ", count as u64)?;
-    say(rt, ": ", number_of(answer))?;
-    say(rt, ", set ", set_in(nodes))?;
-    println!(rt; "")?;
-    Ok(whole.site)
+    say(rt, "Start, n ", site::sound::nodes(f, k) as u64);
+    say(rt, ", records ", count as u64);
+    say(rt, ": ", number_of(answer));
+    say(rt, ", set ", set_in(nodes));
+    end_line(rt);
+    whole.site
 }
 
 // A Tick of a site that was started with enough records, and is then lent so many.
-fn tick_with(rt: &impl Print, site: Site, count: usize) -> io::Result<()> {
+fn tick_with(rt: &impl Print, site: Site, count: usize) {
     let whole = step_with(site, count, Step::Tick);
     let answer = whole.answer;
-    say(rt, "then Tick, records ", count as u64)?;
-    say(rt, ": ", number_of(answer))?;
-    println!(rt; "")
+    say(rt, "then Tick, records ", count as u64);
+    say(rt, ": ", number_of(answer));
+    end_line(rt);
 }
 
-fn main(rt: HostRuntime) -> io::Result<()> {
-    start_with(&rt, 0, 0, 0)?;
-    start_with(&rt, 0, 0, 1)?;
-    start_with(&rt, 0, 0, 12)?;
-    start_with(&rt, 1, 0, 0)?;
-    start_with(&rt, 1, 0, 2)?;
-    start_with(&rt, 1, 0, 3)?;
-    start_with(&rt, 1, 0, 4)?;
-    start_with(&rt, 4, 3, 11)?;
-    start_with(&rt, 4, 3, 12)?;
-    start_with(&rt, 4, 3, 13)?;
-    start_with(&rt, 4, 3, 16)?;
-    let started = start_with(&rt, 1, 1, 4)?;
-    tick_with(&rt, started, 4)?;
-    tick_with(&rt, started, 12)?;
-    tick_with(&rt, started, 16)?;
-    tick_with(&rt, started, 3)?;
-    tick_with(&rt, started, 0)?;
-    Ok(())
+fn main(rt: HostRuntime) {
+    start_with(&rt, 0, 0, 0);
+    start_with(&rt, 0, 0, 1);
+    start_with(&rt, 0, 0, 12);
+    start_with(&rt, 1, 0, 0);
+    start_with(&rt, 1, 0, 2);
+    start_with(&rt, 1, 0, 3);
+    start_with(&rt, 1, 0, 4);
+    start_with(&rt, 4, 3, 11);
+    start_with(&rt, 4, 3, 12);
+    start_with(&rt, 4, 3, 13);
+    start_with(&rt, 4, 3, 16);
+    let started = start_with(&rt, 1, 1, 4);
+    tick_with(&rt, started, 4);
+    tick_with(&rt, started, 12);
+    tick_with(&rt, started, 16);
+    tick_with(&rt, started, 3);
+    tick_with(&rt, started, 0);
 }

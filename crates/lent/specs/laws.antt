@@ -2,4 +2,3 @@
 pub mod InTurn
 pub mod LentLaws
 pub mod Turns
-pub mod TurnLaws

@@ -41,7 +41,7 @@ use Rattle.turns.specs.Turns.{first_run}
 use Rattle.sequences.specs.History.{Entry, Accepted, Change, accepted, last_start, changes_in, at_node, runs, deliveries}
 use Rattle.sequences.specs.Told.{told_to, site_clock, breaker_pair, held_then}
 use Rattle.sequences.specs.Demand.{here, further, Each, SharedEarlier, Rising, Attempts, HeldEnough}
-use Rattle.sequences.specs.laws.Fitting.{done_with}
+use Rattle.sequences.proofs.laws.Fitting.{done_with}
 use Rattle.replay.specs.Replay.{moment_of, told}
 
 abbrev stamp : ℕ → Dts

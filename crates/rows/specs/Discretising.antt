@@ -1,28 +1,15 @@
 -- Rows 1 and 15 of a discretising: when each is given, and which stamp comes with it. "The interval is 1,000 to 10,000 [..]; outside that, refusal 1. Discretising a
 -- reading to more than 1,000,000,000 is refusal 15. A refused discretising gives stamp 0." Of either rounding.
-use Rattle.std.specs.Prelude.{ℕ, ◌+◌, ◌/◌, ◌<◌, ◌≡◌, Bool, ◌↔◌, ◌⊎◌, List, [], ◌∷◌, eqb, leb}
-use Rattle.std.proofs.Math.Path.{refl, ap}
-use Rattle.std.proofs.Common.{sym, subst, ◌∙◌, inl, inr, arith, add-zero, lit<, eqb-true}
-use Rattle.std.proofs.Math.Bool.{true, false, cond}
-use Rattle.std.proofs.lemmas.Bool.{eqb-false}
-use Rattle.refusals.specs.Tests.{passed}
-use Rattle.refusals.specs.laws.Tests.{passed-done, done-passed}
+use Rattle.std.specs.Prelude.{ℕ, ◌+◌, ◌/◌, ◌<◌, ◌≡◌, ◌⊎◌}
 use Rattle.time.specs.declared.Micros.{Micros}
 use Rattle.time.specs.declared.Rounding.{Rounding}
 use Rattle.time.specs.declared.Rounding.TheVariants.{Down, Nearest}
-use Rattle.time.specs.Discretising.{shortest_interval, longest_interval, last_stamp, whole_part, discretising_tests, discretised_by}
-use Rattle.rows.specs.Exactly.{Row, Condition, NoneBefore, Tell, no_rows, also}
-use Rattle.rows.specs.laws.Exactly.{exactly, exactly-done}
-use Rattle.rows.specs.laws.Telling.{above, ◌or◌, spelled}
+use Rattle.time.specs.Discretising.{discretised_by}
 
 -- "DTS = whole part of reading ÷ interval"; to nearest, "half the interval, whole part, added before dividing" (§6 of 02)
 abbrev pub stamp_by : Rounding → Micros → Micros → ℕ
 stamp_by Down reading interval = reading.0 / interval.0
 stamp_by Nearest reading interval = (reading.0 + interval.0 / 2) / interval.0
-
-same-stamp : (rounding : Rounding) (reading interval : Micros) → whole_part rounding reading interval ≡ stamp_by rounding reading interval
-same-stamp Down reading interval = ap (λ (x : ℕ). x / interval.0) (add-zero reading.0)
-same-stamp Nearest reading interval = refl
 
 -- for every rounding, reading and interval
 module _ (rounding : Rounding) (reading interval : Micros) where
@@ -36,56 +23,3 @@ module _ (rounding : Rounding) (reading interval : Micros) where
 
   abbrev pub AnsweredWith : ℕ → Type 0
   AnsweredWith number = (discretised_by rounding reading interval).refusal ≡ number
-
-  abbrev table : List Row
-  table = (1, IntervalOutOfRange) ∷ (15, StampOutOfRange) ∷ []
-
-  rows_tell : Tell (discretising_tests rounding reading interval) table
-  rows_tell =
-      also 1 (above shortest_interval interval.0 or above interval.0 longest_interval)
-      (also 15 (spelled (ap (λ (s : ℕ). leb s last_stamp) (same-stamp rounding reading interval)) (above (stamp_by rounding reading interval) last_stamp)) no_rows)
-
-  told : (k : ℕ) → 0 < k → AnsweredWith k ↔ (NoneBefore k table × Condition k table)
-  unfolding discretised_by
-  told k pos = exactly rows_tell refl k pos
-
-  -- Refusal 1 is given exactly for a bad interval,
-  pub interval-refused : AnsweredWith 1 ↔ IntervalOutOfRange
-  interval-refused = (λ e. ((told 1 (lit< tt)).0 e).1, λ c. (told 1 (lit< tt)).1 (tt, c))
-
-  -- 15 exactly where the interval is good and the stamp too late,
-  pub reading-refused : AnsweredWith 15 ↔ ((IntervalOutOfRange → ⊥) × StampOutOfRange)
-  reading-refused = (λ e. let x = (told 15 (lit< tt)).0 e in (x.0.0, x.1), λ c. (told 15 (lit< tt)).1 ((c.0, tt), c.1))
-
-  -- and a reading is accepted exactly where neither holds.
-  pub reading-accepted : AnsweredWith 0 ↔ ((IntervalOutOfRange → ⊥) × (StampOutOfRange → ⊥))
-  unfolding discretised_by
-  reading-accepted = (λ e. let x = (exactly-done rows_tell refl).0 e in (x.0, x.1.0), λ c. (exactly-done rows_tell refl).1 (c.0, (c.1, tt)))
-
-  -- No other number is ever given.
-  pub no_other : (number : ℕ) → AnsweredWith number → (number ≡ 0) ⊎ (number ≡ 1) ⊎ (number ≡ 15)
-  no_other number e = go (eqb number 0) refl (eqb 1 number) refl (eqb 15 number) refl
-    where
-      go : (x : Bool) → eqb number 0 ≡ x → (y : Bool) → eqb 1 number ≡ y → (z : Bool) → eqb 15 number ≡ z → (number ≡ 0) ⊎ (number ≡ 1) ⊎ (number ≡ 15)
-      go true ex y ey z ez = inl (eqb-true number 0 ex)
-      go false ex true ey z ez = inr (inl (sym (eqb-true 1 number ey)))
-      go false ex false ey true ez = inr (inr (sym (eqb-true 15 number ez)))
-      go false ex false ey false ez =
-          let not-zero = eqb-false number 0 ex in
-          absurd
-          (subst (λ (z : Bool). cond z StampOutOfRange ⊥) ez
-          (subst (λ (y : Bool). cond y IntervalOutOfRange (cond (eqb 15 number) StampOutOfRange ⊥)) ey ((told number (omega (arith, not-zero))).0 e).1))
-
-  -- The stamp of an accepted reading is that of its rounding, and that of a refused one is 0.
-  pub stamp-given : AnsweredWith 0 → (discretised_by rounding reading interval).stamp.0 ≡ stamp_by rounding reading interval
-  unfolding discretised_by
-  stamp-given e =
-      ap (λ (x : Bool). cond x (whole_part rounding reading interval) 0) (done-passed (discretising_tests rounding reading interval) refl e) ∙ same-stamp rounding reading interval
-
-  pub no-stamp : (AnsweredWith 0 → ⊥) → (discretised_by rounding reading interval).stamp.0 ≡ 0
-  unfolding discretised_by
-  no-stamp refused = go (passed (discretising_tests rounding reading interval)) refl
-    where
-      go : (x : Bool) → passed (discretising_tests rounding reading interval) ≡ x → cond x (whole_part rounding reading interval) 0 ≡ 0
-      go true e = absurd (refused (passed-done (discretising_tests rounding reading interval) e))
-      go false e = refl

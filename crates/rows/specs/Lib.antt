@@ -2,6 +2,6 @@
 pub mod Exactly
 pub mod Outsiders
 pub mod Conditions
-pub mod Rows
 pub mod Discretising
 pub mod laws
+pub mod Rows

@@ -2,6 +2,4 @@
 pub mod Exactly
 pub mod Outsiders
 pub mod Telling
-pub mod Ranges
 pub mod Answered
-pub mod Cases

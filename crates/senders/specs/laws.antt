@@ -1,5 +1,3 @@
 -- What is shown of the definitions. Nothing here has to be believed.
 pub mod Sets
 pub mod Bits
-pub mod MaskLaws
-pub mod Within

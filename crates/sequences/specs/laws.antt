@@ -1,23 +1,5 @@
 -- What is shown of the definitions. Nothing here has to be believed.
 pub mod Lengths
 pub mod OfEvents
-pub mod Fitting
-pub mod Keeps
-pub mod Reaching
-pub mod Changing
 pub mod OfBreaker
-pub mod NodeTold
-pub mod SiteTold
-pub mod StateTold
-pub mod AsTold
-pub mod SentTold
-pub mod AtOnce
-pub mod OneEvent
-pub mod Reporting
-pub mod GivingUp
-pub mod Hearing
-pub mod Relay
-pub mod Repeating
 pub mod Started
-pub mod Proved
-pub mod Soundness

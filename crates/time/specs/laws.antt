@@ -1,6 +1,4 @@
 -- What is shown of the definitions. Nothing here has to be believed.
-pub mod ByDefault
-pub mod Closest
 pub mod Rounding
 pub mod Fresh
 pub mod Larger

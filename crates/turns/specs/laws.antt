@@ -2,5 +2,4 @@
 pub mod RunLaws
 pub mod RunLoop
 pub mod WhyTurn
-pub mod Enough
 pub mod Fitting

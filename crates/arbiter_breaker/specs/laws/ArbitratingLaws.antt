@@ -12,14 +12,14 @@ use Rattle.time.specs.declared.Dts.{Dts}
 use Rattle.time.specs.Larger.{larger}
 use Rattle.time.specs.Fresh.{fresh}
 use Rattle.senders.specs.Masks.{room, size, enough}
-use Rattle.senders.specs.laws.MaskLaws.{enough-one}
+use Rattle.senders.proofs.laws.MaskLaws.{enough-one}
 use Rattle.store.specs.declared.Store.{Store}
 use Rattle.store.specs.Store.{moved_to}
 use Rattle.store.specs.Held.{held}
-use Rattle.store.specs.laws.Held.{held_moved, clock-put}
-use Rattle.store.specs.laws.HeldLaws.{takes-near, held-taken, clock-at}
+use Rattle.store.proofs.laws.Held.{held_moved, clock-put}
+use Rattle.store.proofs.laws.HeldLaws.{takes-near, held-taken, clock-at}
 use Rattle.pooling.specs.declared.Pool.{Pool}
-use Rattle.pooling.specs.laws.PoolLaws.{pooled-from, not-later, latest-held}
+use Rattle.pooling.proofs.laws.PoolLaws.{pooled-from, not-later, latest-held}
 use Rattle.pairs.specs.declared.Known.TheVariants.{Yes, No}
 use Rattle.breaker.specs.declared.Breaker.{Breaker}
 use Rattle.breaker.specs.Breaker.{answered, changed}

@@ -1,7 +1,7 @@
 use mathlib.Core.Path.{refl}
 use Rattle.arbiter_lent.specs.laws.InTurn.{compromised_of}
-use Rattle.arbiter_lent.specs.laws.TurnLaws.{all_said}
-use Rattle.arbiter_lent.specs.laws.Whole.{no_more}
+use Rattle.arbiter_lent.proofs.laws.TurnLaws.{all_said}
+use Rattle.arbiter_lent.proofs.laws.Whole.{no_more}
 use Rattle.arbiter_lent.proofs.step.Goals as goal
 
 pub returns-then-n-eq0 : goal.returns-then-n-eq0

@@ -20,7 +20,7 @@ use Rattle.node.specs.Asked.{phase_down, phase_running, known_r, node_in_range, 
 use Rattle.breaker.specs.declared.Breaker.{Breaker}
 use Rattle.acting.specs.Acting.{changed_by}
 use Rattle.acting.specs.laws.ByEvent.{SharesLeft, no-shares, r-shared, runs_up, left_by}
-use Rattle.acting.specs.laws.Relay.{status_in, relay_after, told-r}
+use Rattle.acting.proofs.laws.Relay.{status_in, relay_after, told-r}
 use Rattle.arbiter_steps.specs.declared.Event.{Event}
 use Rattle.arbiter_steps.specs.Steps as Steps
 use Rattle.arbiter_node.specs.declared.Phase.{Phase}

@@ -14,7 +14,7 @@ use Rattle.store.specs.declared.Store.{Store}
 use Rattle.store.specs.Held.{held}
 use Rattle.store.specs.Earliest.{dts, fresh_stamps}
 use Rattle.pooling.specs.Pooling.{pooled}
-use Rattle.pooling.specs.laws.PoolLaws.{In, first, after, in_window, pooled-has, pooled-from}
+use Rattle.pooling.proofs.laws.PoolLaws.{In, first, after, in_window, pooled-has, pooled-from}
 use Rattle.arbiter_sequences.specs.History.{some_of}
 
 -- ---- one of a list passes a test

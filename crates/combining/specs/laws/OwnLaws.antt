@@ -10,8 +10,8 @@ use Rattle.senders.specs.Masks.{room}
 use Rattle.store.specs.declared.Store.{Store}
 use Rattle.store.specs.Store.{put}
 use Rattle.store.specs.Held.{held, has_room_for}
-use Rattle.store.specs.laws.Held.{clock-put}
-use Rattle.store.specs.laws.HeldLaws.{takes-near, held-taken, from_one}
+use Rattle.store.proofs.laws.Held.{clock-put}
+use Rattle.store.proofs.laws.HeldLaws.{takes-near, held-taken, from_one}
 use Rattle.pairs.specs.declared.Pair.{Pair}
 use Rattle.pairs.specs.declared.Pairs.{Pairs}
 use Rattle.pairs.specs.declared.Pairs.TheVariants.{Zero, One, Two}

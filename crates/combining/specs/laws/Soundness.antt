@@ -10,8 +10,8 @@ use Rattle.store.specs.declared.Earliest.{Earliest}
 use Rattle.store.specs.declared.Earliest.TheVariants.{Stamp, Nothing}
 use Rattle.store.specs.Store.{store_within, put}
 use Rattle.store.specs.Earliest.{earliest}
-use Rattle.store.specs.laws.EarliestLaws.{earliest-ahead, earliest-stamp}
-use Rattle.store.specs.laws.WithinLaws.{put-within}
+use Rattle.store.proofs.laws.EarliestLaws.{earliest-ahead, earliest-stamp}
+use Rattle.store.proofs.laws.WithinLaws.{put-within}
 use Rattle.pairs.specs.declared.Known.{Known}
 use Rattle.pairs.specs.declared.Known.TheVariants.{Yes, No}
 use Rattle.pairs.specs.Pair.{pair}

@@ -9,11 +9,11 @@ use Rattle.time.specs.Limits.{last_held_stamp, last_held_clock}
 use Rattle.time.specs.laws.Fresh.{latest_clock, fresh-ahead, next-is}
 use Rattle.time.specs.laws.Larger.{larger-most}
 use Rattle.senders.specs.Masks.{is_in, size, within}
-use Rattle.senders.specs.laws.Within.{joined-within, without-within, none_within}
+use Rattle.senders.proofs.laws.Within.{joined-within, without-within, none_within}
 use Rattle.store.specs.declared.Store.{Store}
 use Rattle.store.specs.Store.{empty, moved_to, store_within}
-use Rattle.store.specs.laws.Held.{clock-moved}
-use Rattle.store.specs.laws.WithinLaws.{empty-within, moved-within}
+use Rattle.store.proofs.laws.Held.{clock-moved}
+use Rattle.store.proofs.laws.WithinLaws.{empty-within, moved-within}
 use Rattle.pairs.specs.declared.Pairs.{Pairs}
 use Rattle.steps.specs.declared.Beginning.{Beginning}
 use Rattle.steps.specs.declared.Turn.{Turn}
@@ -25,10 +25,10 @@ use Rattle.combining.specs.Combining.{put_all}
 use Rattle.combining.specs.laws.OwnLaws.{clock-all}
 use Rattle.combining.specs.laws.Soundness.{all-within}
 use Rattle.events.specs.Events.{went_down, went_up}
-use Rattle.events.specs.laws.Soundness.{went-down-intact, went-up-intact}
+use Rattle.events.proofs.laws.Soundness.{went-down-intact, went-up-intact}
 use Rattle.breaker.specs.declared.Breaker.{Breaker}
 use Rattle.breaker.specs.Breaker.{after_command, breaker_sound}
-use Rattle.breaker.specs.laws.Soundness.{started-sound, command-sound}
+use Rattle.breaker.proofs.laws.Soundness.{started-sound, command-sound}
 use Rattle.site.specs.declared.Site.{Site}
 use Rattle.site.specs.declared.Out.{Out}
 use Rattle.site.specs.Answers.{silence, done}

@@ -7,8 +7,8 @@ use Rattle.time.specs.laws.Fresh.{fresh-then}
 use Rattle.store.specs.declared.Store.{Store}
 use Rattle.store.specs.Store.{moved_to}
 use Rattle.store.specs.Held.{held}
-use Rattle.store.specs.laws.Held.{held_moved}
-use Rattle.store.specs.laws.HeldLaws.{clock-at}
+use Rattle.store.proofs.laws.Held.{held_moved}
+use Rattle.store.proofs.laws.HeldLaws.{clock-at}
 use Rattle.pairs.specs.declared.Pair.{Pair}
 use Rattle.pairs.specs.Pair.{has}
 

@@ -6,7 +6,7 @@ use Rattle.refusals.specs.laws.Bools.{both_ways}
 use Rattle.time.specs.declared.Dts.{Dts}
 use Rattle.time.specs.Fresh.{window, fresh}
 use Rattle.senders.specs.Masks.{room, enough}
-use Rattle.senders.specs.laws.MaskLaws.{same_bits}
+use Rattle.senders.proofs.laws.MaskLaws.{same_bits}
 use Rattle.store.specs.declared.Store.{Store}
 use Rattle.store.specs.declared.Earliest.{Earliest}
 use Rattle.store.specs.declared.Earliest.TheVariants.{Stamp}

@@ -9,7 +9,7 @@ use Rattle.tables.specs.Tables.{table, get_d-table, is-table, length-table}
 use Rattle.store.specs.declared.Store.{Store}
 use Rattle.store.specs.Store.{stamps, places, has_place, place, set_at, senders_of, empty, put_at, put, turn, left_at, moved_to, store_within}
 use Rattle.store.specs.laws.Places.{place-lt}
-use Rattle.store.specs.laws.WithinLaws.{each_within, within-each}
+use Rattle.store.proofs.laws.WithinLaws.{each_within, within-each}
 use Rattle.keeping.specs.laws.Keeping.{the_store, Change, Put, Move, after, earliest-is}
 use Rattle.keeping.specs.laws.Alike.{earliest-by-senders}
 use Rattle.keeping.specs.laws.Before.{place_before, senders_before, put_before, moved_from, moved_before, before, stood, stands, as_now, as_then, AsBefore}

@@ -8,8 +8,8 @@ use Rattle.store.specs.declared.Store.{Store}
 use Rattle.store.specs.declared.Earliest.{Earliest}
 use Rattle.store.specs.Store.{has_place, senders_of, empty, put, moved_to, store_within}
 use Rattle.store.specs.Held.{held, has_room_for}
-use Rattle.store.specs.laws.Held.{held-empty, held-put, clock-put, held_moved, clock-moved}
-use Rattle.store.specs.laws.WithinLaws.{within_held, held-within}
+use Rattle.store.proofs.laws.Held.{held-empty, held-put, clock-put, held_moved, clock-moved}
+use Rattle.store.proofs.laws.WithinLaws.{within_held, held-within}
 use Rattle.store.specs.Earliest.{dts, fresh_stamps, qualifies, first_of, earliest}
 
 pub record Keeping : Type 1 where

@@ -3,8 +3,8 @@ use Rattle.effects.specs.Effects.{first_record}
 use Rattle.loans.specs.Loans.{made_first}
 use Rattle.loans.specs.laws.LoanLaws.{made-enough}
 use Rattle.lent.specs.laws.InTurn.{compromised_of}
-use Rattle.lent.specs.laws.Turns.{made-no-more}
-use Rattle.lent.specs.laws.TurnLaws.{all_said}
+use Rattle.lent.proofs.laws.Turns.{made-no-more}
+use Rattle.lent.proofs.laws.TurnLaws.{all_said}
 use Rattle.lent.proofs.step.Goals as goal
 
 pub returns-then-n-eq0 : goal.returns-then-n-eq0

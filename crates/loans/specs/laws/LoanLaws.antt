@@ -6,7 +6,7 @@ use mathlib.Core.List.{List, [], ◌∷◌, ◌++◌}
 use Rattle.std.proofs.Common.{not-suc-le-zero, le_of_suc-le-suc, le-leb}
 use Rattle.std.proofs.lemmas.Bool.{lt-leb}
 use Rattle.tables.specs.Tables.{table}
-use Rattle.senders.specs.laws.MaskLaws.{in-above}
+use Rattle.senders.proofs.laws.MaskLaws.{in-above}
 use Rattle.node.specs.declared.Node.{Node}
 use Rattle.events.specs.Events.{went_down, went_up}
 use Rattle.effects.specs.Effects.{first_record}

@@ -6,7 +6,7 @@ use Rattle.time.specs.declared.Dts.{Dts}
 use Rattle.senders.specs.Sets.{count_below, either}
 use Rattle.senders.specs.laws.Sets.{count-ext, vouched}
 use Rattle.senders.specs.Masks.{is_in, size, room}
-use Rattle.senders.specs.laws.MaskLaws.{in-together}
+use Rattle.senders.proofs.laws.MaskLaws.{in-together}
 use Rattle.store.specs.Store.{senders_of}
 use Rattle.store.specs.Held.{held}
 use Rattle.breaker.specs.Breaker.{repeats}

@@ -3,7 +3,7 @@ use Rattle.std.specs.Prelude.{ℕ, zero, suc, ◌+◌, ◌/◌, ◌%◌, ◌^◌
 use Rattle.std.proofs.Common.{sym, ap, ◌∙◌, div-one, one-mul, le-div_iff_mul-le, arith, pow_pos, shr-shr, eq-eqb, eqb-true, ltb-false}
 use Rattle.std.proofs.lemmas.Bool.{eqb-false}
 use Rattle.senders.specs.Masks.{is_in, within}
-use Rattle.senders.specs.laws.Within.{within-below}
+use Rattle.senders.proofs.laws.Within.{within-below}
 use Rattle.rows.specs.Exactly.{Tells}
 use Rattle.rows.specs.Outsiders.{Outsider}
 

@@ -2,7 +2,7 @@ use mathlib.Core.Path.{ap, sym, ◌∙◌}
 use lib.Bits.{bit_xor}
 use Rattle.senders.specs.Masks.{without}
 use Rattle.senders.specs.laws.Bits.{one_shl}
-use Rattle.senders.specs.laws.MaskLaws.{in-above}
+use Rattle.senders.proofs.laws.MaskLaws.{in-above}
 use Rattle.senders.proofs.forget.Goals as goal
 
 pub returns-then-sender-ge16 : goal.returns-then-sender-ge16

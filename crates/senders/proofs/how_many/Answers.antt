@@ -1,4 +1,4 @@
-use Rattle.senders.specs.laws.MaskLaws.{ones-size}
+use Rattle.senders.proofs.laws.MaskLaws.{ones-size}
 use Rattle.senders.proofs.how_many.Goals as goal
 
 pub returns : goal.returns

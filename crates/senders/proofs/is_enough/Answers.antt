@@ -1,7 +1,7 @@
 use Prim.Native.Nat.{◌+◌}
 use mathlib.Core.Path.{ap, sym}
 use lib.Dec.{leb}
-use Rattle.senders.specs.laws.MaskLaws.{ones-size, none-enough}
+use Rattle.senders.proofs.laws.MaskLaws.{ones-size, none-enough}
 use Rattle.senders.proofs.is_enough.Goals as goal
 
 pub returns-then-mask-eq0 : goal.returns-then-mask-eq0

@@ -1,6 +1,6 @@
 use mathlib.Core.Path.{refl, sym}
 use Rattle.senders.specs.Masks.{is_in}
-use Rattle.senders.specs.laws.MaskLaws.{in-above}
+use Rattle.senders.proofs.laws.MaskLaws.{in-above}
 use Rattle.senders.proofs.is_in.Goals as goal
 
 pub returns-then-sender-ge16 : goal.returns-then-sender-ge16

@@ -1,5 +1,5 @@
 use mathlib.Core.Path.{sym}
-use Rattle.senders.specs.laws.Within.{shifted-out, room_within}
+use Rattle.senders.proofs.laws.Within.{shifted-out, room_within}
 use Rattle.senders.proofs.is_within.Goals as goal
 
 pub returns-then-n-ge16 : goal.returns-then-n-ge16

@@ -8,7 +8,7 @@ use Rattle.pairs.specs.Shares.{delivered_from}
 use Rattle.steps.specs.declared.Event.{Event}
 use Rattle.steps.specs.Named.{said_by, of_named}
 use Rattle.steps.specs.laws.Naming.{if-named}
-use Rattle.acting.specs.laws.Stores.{delivered_by, Delivers}
+use Rattle.acting.proofs.laws.Stores.{delivered_by, Delivers}
 use Rattle.site.specs.declared.Site.{Site}
 use Rattle.refusing.specs.Tests.{is_status, is_node}
 use Rattle.sequences.specs.History.{fresh_named}

@@ -7,7 +7,7 @@ use Rattle.refusals.specs.laws.Bools.{and_assoc, and-true}
 use Rattle.time.specs.declared.Dts.{Dts}
 use Rattle.time.specs.Fresh.{fresh, window}
 use Rattle.senders.specs.Masks.{joined, together, within}
-use Rattle.senders.specs.laws.Within.{together-within}
+use Rattle.senders.proofs.laws.Within.{together-within}
 use Rattle.tables.specs.Tables.{set-table}
 use Rattle.store.specs.declared.Store.{Store}
 use Rattle.store.specs.declared.Place.TheVariants.{At, Nowhere}

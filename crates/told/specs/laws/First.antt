@@ -9,7 +9,7 @@ use Rattle.store.specs.declared.Earliest.{Earliest}
 use Rattle.store.specs.declared.Earliest.TheVariants.{Stamp, Nothing}
 use Rattle.store.specs.Store.{stamps}
 use Rattle.store.specs.Earliest.{fresh_stamp, fresh_stamps, first_of}
-use Rattle.store.specs.laws.EarliestLaws.{search-found, search-nothing}
+use Rattle.store.proofs.laws.EarliestLaws.{search-found, search-nothing}
 
 module _ (t : Dts) where
   -- the fresh stamps are those of the list

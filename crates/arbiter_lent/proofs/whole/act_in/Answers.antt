@@ -1,7 +1,7 @@
 use native.Mathlib.Omega.{arith}
 use Rattle.arbiter_lent.specs.Lent.{down_voter}
-use Rattle.arbiter_lent.specs.laws.Whole.{any-default, past-said, here-said}
-use Rattle.arbiter_lent.specs.laws.Whole.{past-said, here-said}
+use Rattle.arbiter_lent.proofs.laws.Whole.{any-default, past-said, here-said}
+use Rattle.arbiter_lent.proofs.laws.Whole.{past-said, here-said}
 use Rattle.arbiter_lent.proofs.whole.act_in.Goals as goal
 
 pub returns-then-i-ge-RECORDS : goal.returns-then-i-ge-RECORDS

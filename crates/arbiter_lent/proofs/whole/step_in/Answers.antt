@@ -2,8 +2,8 @@ use mathlib.Core.Path.{ap, refl, sym, ◌∙◌}
 use Rattle.arbiter_steps.specs.Steps.{named}
 use Rattle.arbiter_lent.specs.laws.InTurn.{index_of, compromised_of}
 use Rattle.arbiter_lent.specs.laws.LentLaws.{made-enough}
-use Rattle.arbiter_lent.specs.laws.TurnLaws.{all_said}
-use Rattle.arbiter_lent.specs.laws.Whole.{no_more, few, long}
+use Rattle.arbiter_lent.proofs.laws.TurnLaws.{all_said}
+use Rattle.arbiter_lent.proofs.laws.Whole.{no_more, few, long}
 use Rattle.arbiter_lent.proofs.whole.step_in.Goals as goal
 
 pub returns-then-n-eq0 : goal.returns-then-n-eq0

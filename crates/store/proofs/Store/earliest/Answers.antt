@@ -2,7 +2,7 @@ use mathlib.Core.Path.{refl, sym, ◌∙◌}
 use mathlib.Core.Logic.{inl, inr}
 use native.Mathlib.Omega.{arith}
 use Rattle.store.specs.Earliest.{fresh_stamp, qualifies, earliest}
-use Rattle.store.specs.laws.EarliestLaws.{found-never, taken, passed_over, no-action}
+use Rattle.store.proofs.laws.EarliestLaws.{found-never, taken, passed_over, no-action}
 use Rattle.store.proofs.Store.earliest.Goals as goal
 use Rattle.store.proofs.Store.earliest.Goals.{then-above-stamp+then-is_enough+else-stamp-le4294967295, then-above-stamp+else-is_enough, else-above-stamp}
 

@@ -1,2 +1,0 @@
--- What is shown of the definitions. Nothing here has to be believed.
-pub mod Cases

@@ -1,0 +1,5 @@
+-- Laws that the definitions are held to by edits of them. Nothing here has to be believed.
+pub mod Holding
+pub mod Keeping
+pub mod Proved
+pub mod Soundness

@@ -1,0 +1,3 @@
+pub mod laws
+pub mod Promised
+pub mod Listing

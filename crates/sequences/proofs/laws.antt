@@ -1,0 +1,19 @@
+-- Laws that the definitions are held to by edits of them. Nothing here has to be believed.
+pub mod AsTold
+pub mod AtOnce
+pub mod Changing
+pub mod Fitting
+pub mod GivingUp
+pub mod Hearing
+pub mod Keeps
+pub mod NodeTold
+pub mod OneEvent
+pub mod Proved
+pub mod Reaching
+pub mod Relay
+pub mod Repeating
+pub mod Reporting
+pub mod SentTold
+pub mod SiteTold
+pub mod Soundness
+pub mod StateTold

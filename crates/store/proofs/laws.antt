@@ -1,0 +1,6 @@
+-- Laws that the definitions are held to by edits of them. Nothing here has to be believed.
+pub mod EarliestLaws
+pub mod Held
+pub mod HeldLaws
+pub mod Own
+pub mod WithinLaws

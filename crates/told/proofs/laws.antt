@@ -1,0 +1,6 @@
+-- Laws that the definitions are held to by edits of them. Nothing here has to be believed.
+pub mod Armed
+pub mod Ending
+pub mod Exact
+pub mod GivingUp
+pub mod Rule
