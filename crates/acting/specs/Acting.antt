@@ -1,12 +1,11 @@
 -- An event at a node, to its end: what it makes of the phase, what it makes of the store, and then the node's own shares and the combining rule.
 -- An event that the phase does not take, and an ack of a change that is not remembered, are refused before they come here.
-use Rattle.std.specs.Prelude.{ℕ}
+use Rattle.std.specs.Prelude.{ℕ, Option, None, Some}
+use Rattle.pairs.specs.declared.Pair.{Pair}
 use Rattle.time.specs.declared.Dts.{Dts}
 use Rattle.time.specs.Fresh.{next}
 use Rattle.store.specs.declared.Store.{Store}
 use Rattle.store.specs.Store.{put}
-use Rattle.pairs.specs.declared.Known.{Known}
-use Rattle.pairs.specs.declared.Known.TheVariants.{Yes, No}
 use Rattle.node.specs.declared.Phase.{Phase}
 use Rattle.node.specs.declared.Node.{Node}
 use Rattle.node.specs.declared.Changed.{Changed}
@@ -19,9 +18,9 @@ use Rattle.steps.specs.declared.Event.{Event}
 use Rattle.steps.specs.declared.Event.TheVariants.{Report, Deliver, DeliverPair, ShareTimeout, ResendTimeout, Ack, Query}
 
 -- an ack brings a change, if it is remembered
-abbrev pub acked_by : Phase → Known → Changed
-acked_by phase (Yes change) = acked phase change
-acked_by phase No = unchanged phase
+abbrev pub acked_by : Phase → Option Pair → Changed
+acked_by phase (Some change) = acked phase change
+acked_by phase None = unchanged phase
 
 -- what an event makes of the phase that it finds
 unfoldable pub changed_by : Breaker → Phase → Dts → Event → Changed

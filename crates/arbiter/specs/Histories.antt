@@ -1,10 +1,9 @@
 -- Whatever bytes the program was fed, the site and the table that it has come to were reached by a sequence of steps: what holds over every sequence
 -- (crates/arbiter_sequences, specs/Demand.antt) holds of them.
-use Rattle.std.specs.Prelude.{ℕ, List, []}
+use Rattle.std.specs.Prelude.{ℕ, List, [], Option, None, Some}
+use Rattle.arbiter_steps.specs.declared.Step.{Step}
 use Rattle.std.proofs.Common.{sym, subst}
 use Rattle.arbiter_calls.specs.declared.Run.{Run}
-use Rattle.arbiter_calls.specs.declared.Found.{Found}
-use Rattle.arbiter_calls.specs.declared.Found.TheVariants.{Call, Malformed}
 use Rattle.arbiter_calls.specs.Calls.{read_as}
 use Rattle.arbiter_calls.specs.Runs.{first_run, after}
 use Rattle.arbiter_sequences.specs.History.{Entry}
@@ -19,9 +18,9 @@ moment_of run = record { site = run.site; records = run.nodes }
 abbrev pub HasHistory : Run → Type 0
 HasHistory run = (h : List Entry) × Reached (moment_of first_run) h (moment_of run)
 
-after_call : (found : Found) (run : Run) → HasHistory run → HasHistory (after found run)
-after_call (Call step) run r = (_, then r.1 step)
-after_call Malformed run r = r
+after_call : (found : Option Step) (run : Run) → HasHistory run → HasHistory (after found run)
+after_call (Some step) run r = (_, then r.1 step)
+after_call None run r = r
 
 pub every-run : (n : ℕ) (calls : List (List ℕ)) (progress : Progress) → Came at_first n calls progress → HasHistory progress.run
 every-run n calls progress none_yet = ([], from)

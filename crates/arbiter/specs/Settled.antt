@@ -2,7 +2,7 @@
 -- with everything that was lent, as it is afterwards. (A promise `out ≡ definition ..` settles its result by `settled`, crates/refusals/specs/laws/Settled.antt.)
 use Rattle.std.specs.Prelude.{ℕ, ◌≡◌, List, get_or, set}
 use Rattle.refusals.specs.laws.Settled.{settled, Settles}
-use Rattle.site.specs.declared.Answer.{Answer}
+use Rattle.site.specs.Answers.{Answer}
 use Rattle.arbiter_steps.specs.declared.Step.{Step}
 use Rattle.arbiter_node.specs.declared.Voter.{Voter}
 use Rattle.arbiter_site.specs.declared.Arbiter.{Arbiter}
@@ -11,7 +11,7 @@ use Rattle.arbiter_calls.specs.declared.Run.{Run}
 use Rattle.arbiter_calls.specs.declared.Ran.{Ran}
 use Rattle.arbiter_calls.specs.Runs.{Took}
 
--- ---- the lent table: `arbiter_lent::record_at`, `write_at`, `fill`
+-- ---- the lent table: `loans::record_at`, `write_at`, `fill`, of the records of an Arbiter site
 
 pub record-settled : (records : List Voter) (i : ℕ) → Settles λ (o : Voter × List Voter). (o.0 ≡ get_or records i down_voter) × (o.1 ≡ records)
 record-settled records i x y p q = λ k. (settled p.0 q.0 k, settled p.1 q.1 k)

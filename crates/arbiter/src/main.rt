@@ -8,16 +8,8 @@ ghost use Rattle.arbiter_calls.specs.Runs.{line_for};
 ghost use Rattle.arbiter.specs.Moving.{at_first, Turned, Gone};
 
 use arbiter_calls::Run;
-use std::io;
-use std::io::{ErrorKind, Read, Stderr, Stdin, Stdout, Write};
-
-// Where the calls come from, where the lines go, and where it is said that a write has failed.
-#[derive(Clone, Copy)]
-struct Streams {
-    calls: Stdin,
-    lines: Stdout,
-    errors: Stderr,
-}
+use std::io::Read;
+use streams::{Standard, Streams};
 
 // The run, whether there is more to do, and whether a write has failed. What a call of the system did cannot be promised: `failed` is set where one has said so,
 // and nowhere else. A read that fails looks like the end of the input.
@@ -39,40 +31,22 @@ fn first() -> Progress
     }
 }
 
-// Says what has failed, and why, but for a reader of the lines who is gone. Where that can't be said, there is nobody to say it to.
-fn complain(streams: Streams, what: &str, error: io::Error) {
-    if error.kind() == ErrorKind::BrokenPipe {
-        return;
-    }
-    let mut errors = streams.errors;
-    let _ = writeln!(errors, "{what}: {error}");
-}
-
-// Hands out the line of a call: that line, whole, and no other bytes, is asked of the caller. It is the one function that writes lines. That it calls `write_all`,
+// Hands out the line of a call: that line, whole, and no other bytes, is asked of the caller. It is the one function that writes lines. That it calls `write`,
 // once, and that the system takes the bytes, no contract can say.
-fn hand_out(streams: Streams, line: &[u8], run: Run, call: &[u8]) -> bool
+fn hand_out(streams: &mut Standard, line: &[u8], run: Run, call: &[u8]) -> bool
     requires { line.now ≡ line_for (read_as call.now) run }
 {
-    let mut to = streams.lines;
-    match to.write_all(line) {
-        Ok(()) => true,
-        Err(error) => {
-            complain(streams, "standard output", error);
-            false
-        }
-    }
+    streams.write(line).is_ok()
 }
 
-// Reads until the call is whole, the input ends or a read fails, and says how many bytes of it there are.
-fn read_call(streams: Streams, call: &mut [u8]) -> usize
+// Reads until the call is whole, the input ends or a read fails, and says how many bytes of it there are, which `read_exact` does not.
+fn read_call(streams: &mut Standard, call: &mut [u8]) -> usize
     ensures { result ≤ length call.new }
 {
-    let mut calls = streams.calls;
     let mut count = 0;
     while count < call.len() {
-        match calls.read(&mut call[count..]) {
-            Err(_) => return count,
-            Ok(0) => return count,
+        match streams.input.read(&mut call[count..]) {
+            Err(_) | Ok(0) => break,
             Ok(more) => count += more,
         }
     }
@@ -80,7 +54,7 @@ fn read_call(streams: Streams, call: &mut [u8]) -> usize
 }
 
 // One call, as far as there is one.
-fn turn(streams: Streams, progress: Progress, call: &mut [u8], line: &mut [u8]) -> Progress
+fn turn(streams: &mut Standard, progress: Progress, call: &mut [u8], line: &mut [u8]) -> Progress
     requires longest_line_in_bounds { longest_line ≤ length line.old }
     requires going_value { progress.going ≡ true }
     ensures { Turned progress call.new result }
@@ -108,31 +82,30 @@ fn turn(streams: Streams, progress: Progress, call: &mut [u8], line: &mut [u8]) 
     next
 }
 
-// Call after call, until there is no more to do. Nothing says that the input ends, so the turns are counted down; running out of them is the one other way to stop,
-// and no run comes to it: at a turn a nanosecond it would take 584 years.
-fn go(streams: Streams, progress: Progress, call: &mut [u8], line: &mut [u8]) -> Progress
+// Call after call, until there is no more to do. Nothing says that the input ends, so there is a last turn; it is the one other way to stop, and no run comes
+// to it: at a turn a nanosecond it would take 584 years. `sitelog` has this loop too: what each promises (`Gone`) is of its own run and buffers, and one loop for both
+// would need a trait for that, and be no plainer.
+fn go(streams: &mut Standard, progress: Progress, call: &mut [u8], line: &mut [u8]) -> Progress
     requires { longest_line ≤ length line.old }
     ensures { Gone progress result }
 {
     let mut current = progress;
-    let mut turns = u64::MAX;
-    while turns > 0 {
+    for _ in 0..u64::MAX {
         if !current.going {
             return current;
         }
         current = turn(streams, current, call, line);
-        turns -= 1;
     }
     current
 }
 
 fn main(rt: HostRuntime) {
-    let streams = Streams {
-        calls: rt.stdin(),
+    let mut streams = Streams {
+        input: rt.stdin(),
         lines: rt.stdout(),
         errors: rt.stderr(),
     };
     let mut call = [0u8; 12];
     let mut line = [0u8; 4096];
-    go(streams, first(), &mut call, &mut line);
+    go(&mut streams, first(), &mut call, &mut line);
 }

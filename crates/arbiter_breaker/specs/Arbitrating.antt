@@ -1,12 +1,11 @@
 -- What an accepted message makes of the breaker and of the messages that it holds (§3 of 02).
-use Rattle.std.specs.Prelude.{ℕ, cond, eqb}
+use Rattle.std.specs.Prelude.{ℕ, cond, eqb, Some, None}
 use Rattle.time.specs.declared.Dts.{Dts}
 use Rattle.senders.specs.Masks.{enough}
 use Rattle.store.specs.declared.Store.{Store}
 use Rattle.store.specs.Store.{put, moved_to}
 use Rattle.pooling.specs.declared.Pool.{Pool}
 use Rattle.pooling.specs.Pooling.{pooled}
-use Rattle.pairs.specs.declared.Known.TheVariants.{Yes, No}
 use Rattle.breaker.specs.declared.Breaker.{Breaker}
 use Rattle.breaker.specs.Breaker.{answered, changed}
 use Rattle.arbiter_steps.specs.declared.Message.{Message}
@@ -33,8 +32,8 @@ changed_by breaker held t = changed breaker t (other breaker.pair.status) (askin
 unfoldable pub decided : Breaker → Store → ℕ → Dts → Arbitrated
 decided breaker held f t =
     cond (enough (asking breaker held).senders f)
-    (record { breaker = changed_by breaker held t; held = held; ack = Yes (changed_by breaker held t).pair })
-    (record { breaker = answered breaker t; held = held; ack = No })
+    (record { breaker = changed_by breaker held t; held = held; ack = Some (changed_by breaker held t).pair })
+    (record { breaker = answered breaker t; held = held; ack = None })
 
 unfoldable pub arbitrated : Breaker → Store → ℕ → Dts → Message → Arbitrated
 arbitrated breaker held f t m = decided breaker (received held t m) f t

@@ -6,7 +6,7 @@ ghost use Rattle.arbiter_breaker.specs.Arbitrating.{other, received, decided, ar
 
 use arbiter_steps::Message;
 use breaker::Breaker;
-use pairs::Known;
+use pairs::Pair;
 use store::Store;
 use time::Dts;
 
@@ -15,53 +15,53 @@ use time::Dts;
 pub struct Arbitrated {
     pub breaker: Breaker,
     pub held: Store,
-    pub ack: Known,
+    pub ack: Option<Pair>,
 }
 
 // The action that a breaker with this status does not have.
+#[tactic(auto, unfolding(crate::specs::Arbitrating::other))]
 pub fn other(status: u8) -> u8
     ensures { result ≡ other status }
 {
-    if status == 0 { 1 } else { 0 }
+    u8::from(status == 0)
 }
 
 // The messages held, with one more, at the breaker's clock t.
+#[tactic(auto, unfolding(crate::specs::Arbitrating::received))]
 fn receive(held: Store, t: Dts, message: Message) -> Store
     ensures { result ≡ received held t message }
 {
-    let now = held.move_to(t);
-    now.put(message.sender, message.status, message.stamp)
+    held.move_to(t)
+        .put(message.sender, message.status, message.stamp)
 }
 
 // Whether it moves, for the messages that it holds.
+#[tactic(auto, unfolding(crate::specs::Arbitrating::decided))]
 fn decide(breaker: Breaker, held: Store, f: u8, t: Dts) -> Arbitrated
     ensures { result ≡ decided breaker held f t }
 {
-    let pair = breaker.pair;
-    let action = other(pair.status);
-    let pool = pooling::gather(held, action, pair.stamp);
+    let action = other(breaker.pair.status);
+    let pool = pooling::gather(held, action, breaker.pair.stamp);
     if senders::is_enough(pool.senders, f) {
-        let latest = pool.latest;
-        let after = breaker::change(breaker, t, action, latest);
-        let sent = after.pair;
-        return Arbitrated {
+        let after = breaker::change(breaker, t, action, pool.latest);
+        Arbitrated {
             breaker: after,
             held,
-            ack: Known::Yes(sent),
-        };
-    }
-    let after = breaker::answer(breaker, t);
-    Arbitrated {
-        breaker: after,
-        held,
-        ack: Known::No,
+            ack: Some(after.pair),
+        }
+    } else {
+        Arbitrated {
+            breaker: breaker::answer(breaker, t),
+            held,
+            ack: None,
+        }
     }
 }
 
 // A message that is accepted at the breaker's clock t.
+#[tactic(auto, unfolding(crate::specs::Arbitrating::arbitrated))]
 pub fn arbitrate(breaker: Breaker, held: Store, f: u8, t: Dts, message: Message) -> Arbitrated
     ensures { result ≡ arbitrated breaker held f t message }
 {
-    let now = receive(held, t, message);
-    decide(breaker, now, f, t)
+    decide(breaker, receive(held, t, message), f, t)
 }

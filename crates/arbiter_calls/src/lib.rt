@@ -7,7 +7,7 @@ mod lines;
 ghost use Rattle.std.specs.Prelude.{◌≡◌};
 ghost use Rattle.arbiter_steps.specs.Steps.{named};
 ghost use Rattle.steps.specs.Named.{actor_or0};
-ghost use Rattle.arbiter_calls.specs.Calls.{word, at_node_of, step_of, read_as};
+ghost use Rattle.arbiter_calls.specs.Calls.{at_node_of, step_of, read_as};
 ghost use Rattle.arbiter_calls.specs.Runs.{first_run, Took};
 
 use arbiter_lent::whole::step_in;
@@ -18,108 +18,71 @@ use lines::{put_answer, put_malformed};
 use steps::{Beginning, Turn};
 use time::Dts;
 
-// What twelve bytes say: a step, or nothing that is one.
-#[derive(Clone, Copy)]
-pub enum Found {
-    Call(Step),
-    Malformed,
-}
-
-// Four bytes, the highest first.
-fn word(a: u8, b: u8, c: u8, d: u8) -> u32
-    ensures { result ≡ word a b c d }
-{
-    a as u32 * 16777216 + b as u32 * 65536 + c as u32 * 256 + d as u32
-}
-
 // A call of a step at a node, at its clock.
-fn at_node(letter: u8, a: u8, b: u8, x: u32, y: u32) -> Found
+#[tactic(auto, unfolding(crate::specs::Calls::at_node_of))]
+fn at_node(letter: u8, a: u8, b: u8, x: u32, y: u32) -> Option<Step>
     ensures { result ≡ at_node_of letter a b x y }
 {
-    let t = Dts(x);
-    if letter == b'R' {
-        return Found::Call(Step::AtNode {
-            node: a,
-            t,
-            event: Event::Report {
-                status: b,
-                number: y,
-            },
-        });
-    }
-    if letter == b'H' {
-        return Found::Call(Step::AtNode {
-            node: a,
-            t,
-            event: Event::ShareTimeout,
-        });
-    }
-    if letter == b'A' {
-        return Found::Call(Step::AtNode {
-            node: a,
-            t,
-            event: Event::Ack { back: b },
-        });
-    }
-    if letter == b'Q' {
-        return Found::Call(Step::AtNode {
-            node: a,
-            t,
-            event: Event::Query,
-        });
-    }
-    Found::Malformed
+    let event = match letter {
+        b'R' => Event::Report {
+            status: b,
+            number: y,
+        },
+        b'H' => Event::ShareTimeout,
+        b'A' => Event::Ack { back: b },
+        b'Q' => Event::Query,
+        _ => return None,
+    };
+    Some(Step::AtNode {
+        node: a,
+        t: Dts(x),
+        event,
+    })
 }
 
-fn step_of(letter: u8, a: u8, b: u8, c: u8, x: u32, y: u32) -> Found
+#[tactic(auto, unfolding(crate::specs::Calls::step_of))]
+fn step_of(letter: u8, a: u8, b: u8, c: u8, x: u32, y: u32) -> Option<Step>
     ensures { result ≡ step_of letter a b c x y }
 {
-    if letter == b'S' {
-        let beginning = Beginning {
+    match letter {
+        b'S' => Some(Step::Start(Beginning {
             f: a,
             k: b,
             compromised: (y % 65536) as u16,
             status: c,
             g: Dts(x),
-        };
-        return Found::Call(Step::Start(beginning));
-    }
-    if letter == b'T' {
-        return Found::Call(Step::Tick);
-    }
-    if letter == b'D' {
-        return Found::Call(Step::Life {
+        })),
+        b'T' => Some(Step::Tick),
+        b'D' => Some(Step::Life {
             node: a,
             turn: Turn::Down,
-        });
-    }
-    if letter == b'U' {
-        return Found::Call(Step::Life {
+        }),
+        b'U' => Some(Step::Life {
             node: a,
             turn: Turn::Up,
-        });
+        }),
+        b'M' => Some(Step::AtBreaker {
+            t: Dts(x),
+            message: Message {
+                sender: a,
+                status: b,
+                stamp: Dts(y),
+            },
+        }),
+        _ => at_node(letter, a, b, x, y),
     }
-    if letter == b'M' {
-        let message = Message {
-            sender: a,
-            status: b,
-            stamp: Dts(y),
-        };
-        return Found::Call(Step::AtBreaker { t: Dts(x), message });
-    }
-    at_node(letter, a, b, x, y)
 }
 
-// A call that is not whole, or has another letter, is malformed.
-pub fn read(call: &[u8]) -> Found
+// What twelve bytes say: a step. A call that is not whole, or has another letter, is none: it is malformed.
+pub fn read(call: &[u8]) -> Option<Step>
     ensures { result ≡ read_as call.now }
 {
-    if call.len() != 12 {
-        return Found::Malformed;
-    }
-    let x = word(call[4], call[5], call[6], call[7]);
-    let y = word(call[8], call[9], call[10], call[11]);
-    step_of(call[0], call[1], call[2], call[3], x, y)
+    let &[letter, a, b, c, x0, x1, x2, x3, y0, y1, y2, y3] = call else {
+        return None;
+    };
+    let x = u32::from_be_bytes([x0, x1, x2, x3]);
+    let y = u32::from_be_bytes([y0, y1, y2, y3]);
+    step_of(letter, a, b, c, x, y)
 }
 
 // Where a run stands: the site and its twelve records, and the lines so far.
@@ -142,29 +105,21 @@ pub struct Ran {
 pub fn begin() -> Run
     ensures { result ≡ first_run }
 {
-    let site = arbiter_site::no_site();
     let none = arbiter_node::of_peer(events::down());
     Run {
-        site,
+        site: arbiter_site::no_site(),
         nodes: [none; 12],
         lines: 0,
     }
 }
 
-// The number of the node that a step names, and 0 where it names none.
+// The number of the node that a step names, and 0 where it names none: as `steps::node_of` of 01's steps, a type of its own.
 fn node_of(step: Step) -> u8
     ensures { result ≡ actor_or0 (named step).actor }
 {
     match step {
-        Step::AtNode {
-            node: i,
-            t: _,
-            event: _,
-        } => i,
-        Step::Life { node: i, turn: _ } => i,
-        Step::Start(_) => 0,
-        Step::Tick => 0,
-        Step::AtBreaker { t: _, message: _ } => 0,
+        Step::AtNode { node, .. } | Step::Life { node, .. } => node,
+        Step::Start(_) | Step::Tick | Step::AtBreaker { .. } => 0,
     }
 }
 
@@ -172,17 +127,12 @@ fn node_of(step: Step) -> u8
 pub fn take(run: Run, call: &[u8], out: &mut [u8]) -> Ran
     ensures { Took run call.now out.old out.new result }
 {
-    let found = read(call);
-    let number = std::num::wrapping_add_u64(run.lines, 1);
-    let old = run.site;
-    let table = run.nodes;
-    let Found::Call(step) = found else {
-        let shown = old.site;
-        let put = put_malformed(out, number, shown);
+    let number = run.lines.wrapping_add(1);
+    let Some(step) = read(call) else {
+        let put = put_malformed(out, number, run.site.site);
         let after = Run {
-            site: old,
-            nodes: table,
             lines: number,
+            ..run
         };
         return Ran {
             run: after,
@@ -190,15 +140,11 @@ pub fn take(run: Run, call: &[u8], out: &mut [u8]) -> Ran
             ended: true,
         };
     };
-    let i = node_of(step);
-    let whole = step_in(old, table, step);
-    let site = whole.site;
+    let whole = step_in(run.site, run.nodes, step);
+    let put = put_answer(out, number, whole.site.site, node_of(step), whole.answer);
     let nodes = whole.nodes;
-    let answer = whole.answer;
-    let shown = site.site;
-    let put = put_answer(out, number, shown, i, answer);
     let after = Run {
-        site,
+        site: whole.site,
         nodes,
         lines: number,
     };

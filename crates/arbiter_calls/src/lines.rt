@@ -5,6 +5,7 @@ ghost use Rattle.text.specs.Lines.{line_bytes, line_next};
 ghost use Rattle.arbiter_calls.specs.Runs.{done_text, answer_text, malformed_text};
 
 use pairs::Pairs;
+use refusals::Refusal;
 use site::{Answer, Sent, Site};
 use text::line::{put_loud, put_message, put_quiet, shown_stamp, shown_status};
 
@@ -12,11 +13,9 @@ use text::line::{put_loud, put_message, put_quiet, shown_stamp, shown_status};
 fn put_done(out: &mut [u8], number: u64, status: u8, stamp: u32, i: u8, sent: Sent) -> usize
     ensures { (out.new ≡ line_bytes out.old 0 (done_text number status stamp i sent)) × (result ≡ line_next out.old 0 (done_text number status stamp i sent)) }
 {
-    let shares = sent.shares;
-    match shares {
-        Pairs::Zero => put_loud(out, 0, number, status, stamp, i, sent),
+    match sent.shares {
         Pairs::One(message) => put_message(out, 0, number, status, stamp, i, message),
-        Pairs::Two(_, _) => put_loud(out, 0, number, status, stamp, i, sent),
+        Pairs::Zero | Pairs::Two(_, _) => put_loud(out, 0, number, status, stamp, i, sent),
     }
 }
 
@@ -26,8 +25,8 @@ pub fn put_answer(out: &mut [u8], number: u64, site: Site, i: u8, answer: Answer
     let status = shown_status(site);
     let stamp = shown_stamp(site);
     match answer {
-        Answer::Done(sent) => put_done(out, number, status, stamp, i, sent),
-        Answer::Refused(refusal) => put_quiet(out, 0, number, refusal, status, stamp),
+        Ok(sent) => put_done(out, number, status, stamp, i, sent),
+        Err(refusal) => put_quiet(out, 0, number, refusal.number(), status, stamp),
     }
 }
 
@@ -37,5 +36,5 @@ pub fn put_malformed(out: &mut [u8], number: u64, site: Site) -> usize
 {
     let status = shown_status(site);
     let stamp = shown_stamp(site);
-    put_quiet(out, 0, number, 17, status, stamp)
+    put_quiet(out, 0, number, Refusal::Malformed.number(), status, stamp)
 }

@@ -1,2 +1,1 @@
-pub mod Others
 pub mod laws

@@ -1,13 +1,12 @@
 -- "The table of nodes is lent by the caller, one record for each node; a step changes the record of the node it names and no other. Tick and [a message] change
--- none. Start sets the first n and leaves the rest."
-use Rattle.std.specs.Prelude.{ℕ, ◌≡◌, cond, List, ◌++◌, leb, length, get_or, set, drop}
-use Rattle.std.proofs.Math.Option.{Option, none, some}
-use Rattle.tables.specs.Tables.{table}
+-- None. Start sets the first n and leaves the rest."
+use Rattle.std.specs.Prelude.{ℕ, ◌≡◌, List, length, get_or, set, Option, None, Some, Ok, Err}
 use Rattle.events.specs.Events.{went_down}
 use Rattle.effects.specs.Effects.{first_record}
-use Rattle.site.specs.declared.Answer.{Answer}
-use Rattle.site.specs.declared.Answer.TheVariants.{Done, Refused}
+use Rattle.site.specs.Answers.{Answer}
 use Rattle.site.specs.Site.{nodes}
+use Rattle.loans.specs.Loans.{first_by, made_by}
+use Rattle.lent.specs.declared.kinds.Turned.{Turned}
 use Rattle.arbiter_steps.specs.declared.Step.{Step}
 use Rattle.arbiter_steps.specs.declared.Step.TheVariants.{Start, Tick, AtNode, Life, AtBreaker}
 use Rattle.arbiter_steps.specs.Steps.{named}
@@ -21,22 +20,31 @@ use Rattle.arbiter_site.specs.Steps.{stepped}
 abbrev pub down_voter : Voter
 down_voter = of_peer went_down
 
+-- the rule by which records are made at a start
+abbrev pub rule : ℕ → ℕ → Voter
+rule compromised i = of_peer (first_record compromised i)
+
 -- the records that a Start makes, in front of those that it leaves
 abbrev pub first_records : ℕ → ℕ → List Voter → List Voter
-first_records n compromised records = table n (λ i. of_peer (first_record compromised i)) ++ drop n records
+first_records = first_by rule
 
 -- the same in a table of at least n records; a shorter one stays as it is
-unfoldable pub made_first : ℕ → ℕ → List Voter → List Voter
-made_first n compromised records = cond (leb n (length records)) (first_records n compromised records) records
+abbrev pub made_first : ℕ → ℕ → List Voter → List Voter
+made_first = made_by rule
 
 -- the record of the node that a step names, where the table has one
 abbrev pub record_of : Option ℕ → List Voter → Voter
-record_of none records = down_voter
-record_of (some i) records = get_or records i down_voter
+record_of None records = down_voter
+record_of (Some i) records = get_or records i down_voter
 
 -- the step with that record
 unfoldable pub out_of : Arbiter → List Voter → Step → Out
 out_of a records step = stepped a (length records) (record_of (named step).actor records) step
+
+-- a step with the record of the acting node, as it is handed back
+abbrev pub turned : Arbiter → ℕ → Voter → Step → Turned Arbiter Voter
+turned a lent voter step =
+    record { answer = (stepped a lent voter step).answer; site = (stepped a lent voter step).site; node = (stepped a lent voter step).node }
 
 -- the table after an answer to a step
 abbrev pub after_done : Step → List Voter → Voter → List Voter
@@ -46,10 +54,10 @@ after_done (AtNode i t event) records voter = set records i voter
 after_done (Life i turn) records voter = set records i voter
 after_done (AtBreaker t m) records voter = records
 
--- a refused step changes none
+-- a refused step changes None
 abbrev pub table_after_answer : Answer → Step → List Voter → Voter → List Voter
-table_after_answer (Done sent) step records voter = after_done step records voter
-table_after_answer (Refused number) step records voter = records
+table_after_answer (Ok sent) step records voter = after_done step records voter
+table_after_answer (Err refusal) step records voter = records
 
 unfoldable pub table_after : Arbiter → List Voter → Step → List Voter
 table_after a records step = table_after_answer (out_of a records step).answer step records (out_of a records step).node

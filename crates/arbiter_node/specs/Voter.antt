@@ -1,13 +1,12 @@
 -- A node of the Arbiter Protocol. "Nodes keep no shares and send (status, t) straight to the breaker, on the reports at which a Peer node shares and on each share
 -- timeout" (§3 of 02): it is 01's node, of which the phase is kept and the last clock, with no stamp being resent. It sends no command, and so has no
 -- second pair that it could return to (§9 of 02).
+use Rattle.std.specs.Prelude.{Option, None, Some}
+use Rattle.pairs.specs.declared.Pair.{Pair}
 use Rattle.time.specs.declared.Dts.{Dts}
 use Rattle.store.specs.Store.{empty}
-use Rattle.pairs.specs.declared.Known.{Known}
-use Rattle.pairs.specs.declared.Known.TheVariants.{Yes, No}
 use Rattle.pairs.specs.declared.Pairs.{Pairs}
 use Rattle.pairs.specs.declared.Pairs.TheVariants.{Zero, One, Two}
-use Rattle.node.specs.declared.Resend.TheVariants.{Off}
 use Rattle.node.specs.declared.Phase.{Phase as PeerPhase}
 use Rattle.node.specs.declared.Phase.TheVariants as Peer
 use Rattle.node.specs.declared.Node.{Node}
@@ -26,7 +25,7 @@ use Rattle.arbiter_node.specs.declared.Voted.{Voted}
 abbrev pub phase_in_peer : Phase → PeerPhase
 phase_in_peer Down = Peer.Down
 phase_in_peer (Starting l) = Peer.Starting (record { r = l.r; b = l.b; second = l.b; number = l.number })
-phase_in_peer (Running heard) = Peer.Running (record { r = heard.r; b = heard.b; second = Yes heard.b; number = heard.number; resend = Off })
+phase_in_peer (Running heard) = Peer.Running (record { r = heard.r; b = heard.b; second = Some heard.b; number = heard.number; resend = None })
 
 -- the node as 01's, which holds nothing and resends nothing
 abbrev pub in_peer : Voter → Node
@@ -44,10 +43,10 @@ of_peer node = record { phase = of_peer_phase node.phase; clock = node.store.clo
 -- ---- an event
 
 -- the message in the place of shares: the first of them, (status, t)
-abbrev pub first_of : Pairs → Known
-first_of Zero = No
-first_of (One p) = Yes p
-first_of (Two p q) = Yes p
+abbrev pub first_of : Pairs → Option Pair
+first_of Zero = None
+first_of (One p) = Some p
+first_of (Two p q) = Some p
 
 -- what an event makes of a node is what it makes of 01's before the combining rule; its clock is t
 unfoldable pub voted : Breaker → Voter → Dts → Event → Voted

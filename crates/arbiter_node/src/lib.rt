@@ -8,17 +8,17 @@ ghost use Rattle.arbiter_node.specs.Voter.{phase_in_peer, in_peer, of_peer_phase
 use acting::change;
 use arbiter_steps::{Event, in_peer};
 use breaker::Breaker;
-use node::{Last, Learned, Node, Record, Resend};
-use pairs::{Known, Pair, Pairs};
+use node::{Learned, Node, Record};
+use pairs::{Pair, Pairs};
 use store::Store;
 use time::Dts;
 
 // What a starting node has learned so far. It sends no command when it runs, and so has no second pair (§9 of 02).
 #[derive(Clone, Copy)]
 pub struct Learning {
-    pub r: Known,
-    pub b: Known,
-    pub number: Last,
+    pub r: Option<Pair>,
+    pub b: Option<Pair>,
+    pub number: Option<u32>,
 }
 
 // What a running node knows.
@@ -26,9 +26,10 @@ pub struct Learning {
 pub struct Heard {
     pub r: Pair,
     pub b: Pair,
-    pub number: Last,
+    pub number: Option<u32>,
 }
 
+// A type of its own, and not 01's with other records in it: all that is shown of 01's phase (crates/node/specs and above) names it without parameters.
 #[derive(Clone, Copy)]
 pub enum Phase {
     Down,
@@ -47,38 +48,29 @@ pub struct Voter {
 #[derive(Clone, Copy)]
 pub struct Voted {
     pub voter: Voter,
-    pub message: Known,
+    pub message: Option<Pair>,
 }
 
-// As 01's node it has b itself for its second pair, against which 16 has nothing.
+// As 01's node it has b itself for its second pair, against which 16 has nothing. This way and the other are no `From`: the one makes a part up and the other
+// drops some, which their names say and `into` would not.
 fn phase_in_peer(phase: Phase) -> node::Phase
     ensures { result ≡ phase_in_peer phase }
 {
     match phase {
         Phase::Down => node::Phase::Down,
-        Phase::Starting(learning) => {
-            let r = learning.r;
-            let b = learning.b;
-            let number = learning.number;
-            node::Phase::Starting(Learned {
-                r,
-                b,
-                second: b,
-                number,
-            })
-        }
-        Phase::Running(heard) => {
-            let r = heard.r;
-            let b = heard.b;
-            let number = heard.number;
-            node::Phase::Running(Record {
-                r,
-                b,
-                second: Known::Yes(b),
-                number,
-                resend: Resend::Off,
-            })
-        }
+        Phase::Starting(learning) => node::Phase::Starting(Learned {
+            r: learning.r,
+            b: learning.b,
+            second: learning.b,
+            number: learning.number,
+        }),
+        Phase::Running(heard) => node::Phase::Running(Record {
+            r: heard.r,
+            b: heard.b,
+            second: Some(heard.b),
+            number: heard.number,
+            resend: None,
+        }),
     }
 }
 
@@ -87,18 +79,16 @@ fn of_peer_phase(phase: node::Phase) -> Phase
 {
     match phase {
         node::Phase::Down => Phase::Down,
-        node::Phase::Starting(learned) => {
-            let r = learned.r;
-            let b = learned.b;
-            let number = learned.number;
-            Phase::Starting(Learning { r, b, number })
-        }
-        node::Phase::Running(rec) => {
-            let r = rec.r;
-            let b = rec.b;
-            let number = rec.number;
-            Phase::Running(Heard { r, b, number })
-        }
+        node::Phase::Starting(learned) => Phase::Starting(Learning {
+            r: learned.r,
+            b: learned.b,
+            number: learned.number,
+        }),
+        node::Phase::Running(rec) => Phase::Running(Heard {
+            r: rec.r,
+            b: rec.b,
+            number: rec.number,
+        }),
     }
 }
 
@@ -106,9 +96,8 @@ fn of_peer_phase(phase: node::Phase) -> Phase
 pub fn in_peer_site(voter: Voter) -> Node
     ensures { result ≡ in_peer voter }
 {
-    let phase = voter.phase;
     Node {
-        phase: phase_in_peer(phase),
+        phase: phase_in_peer(voter.phase),
         store: Store::empty(voter.clock),
     }
 }
@@ -117,11 +106,9 @@ pub fn in_peer_site(voter: Voter) -> Node
 pub fn of_peer(node: Node) -> Voter
     ensures { result ≡ of_peer node }
 {
-    let phase = node.phase;
-    let clock = node.store.clock;
     Voter {
-        phase: of_peer_phase(phase),
-        clock,
+        phase: of_peer_phase(node.phase),
+        clock: node.store.clock,
     }
 }
 
@@ -132,30 +119,26 @@ pub fn first_record(compromised: u16, i: u8) -> Voter
     of_peer(effects::first_record(compromised, i))
 }
 
-fn first(shares: Pairs) -> Known
+fn first(shares: Pairs) -> Option<Pair>
     ensures { result ≡ first_of shares }
 {
     match shares {
-        Pairs::Zero => Known::No,
-        Pairs::One(p) => Known::Yes(p),
-        Pairs::Two(p, _) => Known::Yes(p),
+        Pairs::Zero => None,
+        Pairs::One(p) | Pairs::Two(p, _) => Some(p),
     }
 }
 
 // An event at a node: what it makes of the phase is what it makes of 01's, and in the place of shares there is one message.
+#[tactic(auto, unfolding(crate::specs::Voter::voted))]
 pub fn vote(breaker: Breaker, voter: Voter, t: Dts, event: Event) -> Voted
     ensures { result ≡ voted breaker voter t event }
 {
-    let old = voter.phase;
-    let phase = phase_in_peer(old);
-    let left = change(breaker, phase, t, in_peer(event));
-    let after = left.phase;
-    let shares = left.shares;
+    let left = change(breaker, phase_in_peer(voter.phase), t, in_peer(event));
     Voted {
         voter: Voter {
-            phase: of_peer_phase(after),
+            phase: of_peer_phase(left.phase),
             clock: t,
         },
-        message: first(shares),
+        message: first(left.shares),
     }
 }

@@ -2,7 +2,7 @@
 -- caller's own, told by the steps that it gave and the answers that it got.
 use Rattle.std.specs.Prelude.{List, ◌∷◌}
 use Rattle.std.proofs.Common.{sym, subst}
-use Rattle.site.specs.declared.Answer.{Answer}
+use Rattle.site.specs.Answers.{Answer}
 use Rattle.arbiter_steps.specs.declared.Step.{Step}
 use Rattle.arbiter_node.specs.declared.Voter.{Voter}
 use Rattle.arbiter_site.specs.declared.Arbiter.{Arbiter}

@@ -1,21 +1,19 @@
--- "Demand 3 for this variant: some counted sender was correct, sent that action at one of those stamps, at its own clock equal to it, with that as its relay's last
+-- "Demand 3 for this variant: Some counted sender was correct, sent that action at one of those stamps, at its own clock equal to it, with that as its relay's last
 -- accepted report; breaker stamps strictly rise" (§3 of 02); what the breaker holds; and that it changes at once. Counted "from the last accepted start, with a
 -- fixed set of at most f compromised nodes", of "every sequence of steps, each given the site and table the last one left".
 -- `Reached first h m` is such a sequence, from any site and table whatever: h tells its steps and answers, and m is the site and table that it leaves.
 -- `accepted h` are the steps accepted since the last accepted Start, `last_start h` is what that Start gave.
-use Rattle.std.specs.Prelude.{ℕ, ◌+◌, ◌≤◌, ◌<◌, ◌≡◌, true, false, List, [], ◌∷◌, ◌⊎◌}
-use Rattle.std.proofs.Math.Option.{some}
+use Rattle.std.specs.Prelude.{ℕ, ◌+◌, ◌≤◌, ◌<◌, ◌≡◌, true, false, List, [], ◌∷◌, ◌⊎◌, Some, None, Err}
+use Rattle.refusals.specs.declared.Refusal.{Refusal}
 use Rattle.time.specs.declared.Dts.{Dts}
 use Rattle.senders.specs.Sets.{count_below}
 use Rattle.senders.specs.Masks.{is_in, size}
 use Rattle.store.specs.Held.{held}
 use Rattle.pairs.specs.declared.Pair.{Pair}
-use Rattle.pairs.specs.declared.Known.TheVariants.{Yes, No}
 use Rattle.pairs.specs.declared.Pairs.TheVariants.{Zero}
 use Rattle.pairs.specs.Pair.{pair, listed, has}
 use Rattle.steps.specs.declared.Beginning.{Beginning}
 use Rattle.steps.specs.Named.{Of}
-use Rattle.site.specs.declared.Answer.TheVariants.{Refused}
 use Rattle.site.specs.Answers.{number_of}
 use Rattle.site.specs.Site.{nodes}
 pub use Rattle.history.specs.Sequences.{Earlier, here, further, Each, EachStep}
@@ -34,7 +32,7 @@ pub record SentIt (i A : ℕ) (T : Dts) (a : Accepted) (before : List Accepted) 
   pub by-node : is_at i a ≡ true
   pub sent : has (listed a.sent.shares) A T ≡ true
   pub at-clock : Of (named a.step).clock λ t. t.0 ≡ T.0
-  pub reported : last_report (at_node i (a ∷ before)) ≡ some A
+  pub reported : last_report (at_node i (a ∷ before)) ≡ Some A
 
 -- ---- a message a at the breaker's clock t, with the accepted steps before it, for what the last Start gave
 
@@ -55,20 +53,20 @@ module _ (b : Beginning) (before : List Accepted) (a : Accepted) (t : Dts) where
 
   -- the breaker changes in that same step exactly when there are enough: it acknowledges that action, with that stamp
   pub record ChangesAtOnceHere : Type 0 where
-    pub at_once : Enough → (U : Dts) × (a.sent.ack ≡ Yes (pair (wanted b before) U)) × IsLargest U
-    pub no_other : (p : Pair) → a.sent.ack ≡ Yes p → Enough
+    pub at_once : Enough → (U : Dts) × (a.sent.ack ≡ Some (pair (wanted b before) U)) × IsLargest U
+    pub no_other : (p : Pair) → a.sent.ack ≡ Some p → Enough
 
 -- a message does so, and no other step sends an ack
 abbrev pub ChangesAtOnceBy : Beginning → Accepted → List Accepted → Step → Type 0
-ChangesAtOnceBy b a before (Start b') = a.sent.ack ≡ No
-ChangesAtOnceBy b a before Tick = a.sent.ack ≡ No
-ChangesAtOnceBy b a before (AtNode i t event) = a.sent.ack ≡ No
-ChangesAtOnceBy b a before (Life i turn) = a.sent.ack ≡ No
+ChangesAtOnceBy b a before (Start b') = a.sent.ack ≡ None
+ChangesAtOnceBy b a before Tick = a.sent.ack ≡ None
+ChangesAtOnceBy b a before (AtNode i t event) = a.sent.ack ≡ None
+ChangesAtOnceBy b a before (Life i turn) = a.sent.ack ≡ None
 ChangesAtOnceBy b a before (AtBreaker t m) = ChangesAtOnceHere b before a t
 
 -- ---- an accepted change
 
--- "some counted sender was correct, sent that action at one of those stamps", earlier than the change
+-- "Some counted sender was correct, sent that action at one of those stamps", earlier than the change
 abbrev pub SentByACorrectOne : Beginning → Change → Type 0
 SentByACorrectOne b c =
     (i : ℕ) × Correct b i × ((T : Dts) × CountedAt b c.before c.at c.clock i T × Earlier (SentIt i c.action T) c.before)
@@ -109,7 +107,7 @@ module _ (h : List Entry) (m : Moment) (b : Beginning) where
   abbrev pub ChangesAtOnce : Type 0
   ChangesAtOnce = EachStep (λ a before. ChangesAtOnceBy b a before a.step) (accepted h)
 
-  -- No step sends a command.
+  -- None step sends a command.
   abbrev pub SendsNoCommand : Type 0
   SendsNoCommand = EachStep (λ a before. a.sent.commands ≡ Zero) (accepted h)
 
@@ -119,15 +117,15 @@ NeverDamaged h m b = (step : Step) → number_of (answer_to m step) ≡ 16 → �
 
 -- for every sequence that has an accepted Start
 abbrev pub Always : (List Entry → Moment → Beginning → Type 0) → Type 0
-Always P = (first : Moment) (h : List Entry) (m : Moment) → Reached first h m → (b : Beginning) → last_start h ≡ some b → P h m b
+Always P = (first : Moment) (h : List Entry) (m : Moment) → Reached first h m → (b : Beginning) → last_start h ≡ Some b → P h m b
 
 -- 3, for two sequences: where they agree on one sender's deliveries and on the breaker's clock, they agree on what is held from it, whatever the others send.
 abbrev pub OneSendersOwn : Type 0
 OneSendersOwn =
-    (first first' : Moment) (h h' : List Entry) (m m' : Moment) → Reached first h m → Reached first' h' m' → (b b' : Beginning) → last_start h ≡ some b → last_start h' ≡ some b'
+    (first first' : Moment) (h h' : List Entry) (m m' : Moment) → Reached first h m → Reached first' h' m' → (b b' : Beginning) → last_start h ≡ Some b → last_start h' ≡ Some b'
     → (i : ℕ) → deliveries i (accepted h) ≡ deliveries i (accepted h') → breaker_clock b (accepted h) ≡ breaker_clock b' (accepted h')
     → (A : ℕ) (T : Dts) → held m.site.held A T i ≡ held m'.site.held A T i
 
 -- "A refused step sends nothing and changes nothing": the moment after it is the moment before, reached or not.
 abbrev pub RefusedChangesNothing : Type 0
-RefusedChangesNothing = (m : Moment) (step : Step) (number : ℕ) → answer_to m step ≡ Refused number → after_step m step ≡ m
+RefusedChangesNothing = (m : Moment) (step : Step) (refusal : Refusal) → answer_to m step ≡ Err refusal → after_step m step ≡ m

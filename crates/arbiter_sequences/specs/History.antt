@@ -1,12 +1,9 @@
 -- What has happened at an Arbiter site, told by the steps and their answers alone: no field of a site or of a record is looked at. Every list has the latest first.
-use Rattle.std.specs.Prelude.{ℕ, Bool, ◌&&◌, ◌||◌, false, cond, List, [], ◌∷◌, ◌++◌, eqb, ltb}
-use Rattle.std.proofs.Math.Option.{Option}
+use Rattle.std.specs.Prelude.{ℕ, Bool, ◌&&◌, ◌||◌, false, cond, List, [], ◌∷◌, ◌++◌, eqb, ltb, Option, None, Some}
 use Rattle.time.specs.declared.Dts.{Dts}
 use Rattle.time.specs.Fresh.{fresh}
 use Rattle.store.specs.Earliest.{dts, fresh_stamps}
 use Rattle.pairs.specs.declared.Pair.{Pair}
-use Rattle.pairs.specs.declared.Known.{Known}
-use Rattle.pairs.specs.declared.Known.TheVariants.{Yes, No}
 use Rattle.pairs.specs.Pair.{pair, has}
 use Rattle.steps.specs.declared.Beginning.{Beginning}
 use Rattle.history.specs.History as Of
@@ -83,9 +80,9 @@ pub record Change : Type 0 where
   pub stamp : Dts
   pub before : List Accepted
 
-abbrev acknowledged : Known → Accepted → Dts → List Accepted → List Change
-acknowledged (Yes p) a t before = record { at = a; clock = t; action = p.status; stamp = p.stamp; before = before } ∷ []
-acknowledged No a t before = []
+abbrev acknowledged : Option Pair → Accepted → Dts → List Accepted → List Change
+acknowledged (Some p) a t before = record { at = a; clock = t; action = p.status; stamp = p.stamp; before = before } ∷ []
+acknowledged None a t before = []
 
 abbrev pub change_by : Step → Accepted → List Accepted → List Change
 change_by (Start b) a before = []

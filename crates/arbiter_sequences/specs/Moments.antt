@@ -1,6 +1,6 @@
 -- An Arbiter site with its table, and every sequence of steps, "each given the site and table the last one left".
 use Rattle.std.specs.Prelude.{ℕ, List, get_or}
-use Rattle.site.specs.declared.Answer.{Answer}
+use Rattle.site.specs.Answers.{Answer}
 use Rattle.history.specs.Sequences as Of
 pub use Rattle.history.specs.Sequences.{from, then}
 use Rattle.arbiter_steps.specs.declared.Step.{Step}

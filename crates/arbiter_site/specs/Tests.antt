@@ -1,6 +1,7 @@
 -- "Refusals: those of 01, in its order; 10 and 11 are not given." (§3 of 02.) The rows after 16 are 01's own, for what a step names: a message is tested as a
 -- Deliver, with the breaker as receiver, so that 3 and 4, which speak of an acting node, pass it, and 6 goes by the breaker's last clock.
 use Rattle.std.specs.Prelude.{ℕ, Bool, ◌&&◌, List, ◌∷◌}
+use Rattle.refusals.specs.declared.Refusal.TheVariants.{Unsound}
 use Rattle.refusals.specs.Tests.{Test}
 use Rattle.steps.specs.Named.{Named, of_named}
 use Rattle.site.specs.Site.{actor_sound}
@@ -18,7 +19,7 @@ abbrev pub are_sound : Arbiter → ℕ → Voter → Named → Bool
 are_sound a lent voter the = unless_start the.beginning (arbiter_sound a lent && of_named the.actor (actor_sound a.site (in_peer voter)))
 
 abbrev pub table_for : Arbiter → ℕ → Voter → Named → List Test
-table_for a lent voter the = (16, are_sound a lent voter the) ∷ rows_for a.site lent (in_peer voter) the
+table_for a lent voter the = (Unsound, are_sound a lent voter the) ∷ rows_for a.site lent (in_peer voter) the
 
 -- the tests of a step, for a site, a number of lent records and the record of the acting node
 unfoldable pub tests_of : Arbiter → ℕ → Voter → Step → List Test

@@ -1,12 +1,10 @@
 // The site of the Arbiter Protocol, and its steps by value: 01's site, and the messages that its breaker holds. What 01's site does in a step that both have is
 // asked of its own functions.
-#![tactic(auto)]
+#![tactic(auto, using(std::proofs::lemmas::Result::err_from_is_err_and), unfolding(refusals::specs::Tests::refusal))]
 
 ghost use Rattle.std.specs.Prelude.{◌≡◌, ◌&&◌, ◌∷◌};
 ghost use Rattle.refusals.specs.Tests.{refusal};
 ghost use Rattle.site.specs.Site.{actor_sound};
-ghost use Rattle.site.specs.Answers.{silence};
-ghost use Rattle.effects.specs.Effects.{with_made, with_down, with_breaker};
 ghost use Rattle.arbiter_site.specs.Site.{no_arbiter, arbiter_sound};
 ghost use Rattle.arbiter_site.specs.Effects.{refused, done, shares_of};
 ghost use Rattle.arbiter_site.specs.Steps.{stepped};
@@ -15,12 +13,11 @@ ghost use Rattle.arbiter_site.specs.laws.Parts.{message_tests};
 use arbiter_breaker::arbitrate;
 use arbiter_node::{Voter, in_peer_site, of_peer, vote};
 use arbiter_steps::{Event, Message, Step, in_peer};
-use breaker::Breaker;
 use node::Node;
-use pairs::{Known, Pairs};
-use refusals::{first, test};
+use pairs::{Pair, Pairs};
+use refusals::{Refusal, test};
 use site::sound::is_site_sound;
-use site::{Answer, Sent, Site};
+use site::{Answer, Sent, Site, silence};
 use steps::{Beginning, Turn};
 use store::Store;
 use time::{Dts, LAST_HELD_CLOCK};
@@ -75,36 +72,25 @@ fn is_sound_at(arbiter: Arbiter, lent: usize, node: Node, i: u8) -> bool
 }
 
 // The refusal of a message, with a verdict of 16 that is given.
-fn refuse_message(sound: bool, site: Site, t: Dts, message: Message) -> u8
-    ensures { result ≡ refusal ((16, sound) ∷ message_tests site t message) }
+fn refuse_message(sound: bool, site: Site, t: Dts, message: Message) -> Result<(), Refusal>
+    ensures { result ≡ refusal ((Refusal.Unsound, sound) ∷ message_tests site t message) }
 {
+    test(Refusal::Unsound, sound)?;
     let known = refusing::is_node(site, message.sender);
+    test(Refusal::BadNumber, known & (message.status <= 1))?;
     let now = refusing::is_now(site, t);
-    let own = refusing::share(site, t, message.sender, message.status, message.stamp);
-    let a = test(16, sound);
-    let b = test(2, known & (message.status <= 1));
-    let c = test(5, now);
-    let d = test(6, site.breaker.clock.0 <= t.0);
-    first(a, first(b, first(c, first(d, own))))
+    test(Refusal::NotNow, now)?;
+    test(Refusal::ClockBack, site.breaker.clock.0 <= t.0)?;
+    refusing::share(site, t, message.sender, message.status, message.stamp)
 }
 
 // ---- what a step hands back
 
-fn silence() -> Sent
-    ensures { result ≡ silence }
-{
-    Sent {
-        shares: Pairs::Zero,
-        commands: Pairs::Zero,
-        ack: Known::No,
-    }
-}
-
-fn refused(number: u8, arbiter: Arbiter, voter: Voter) -> Out
-    ensures { result ≡ refused number arbiter voter }
+fn refused(refusal: Refusal, arbiter: Arbiter, voter: Voter) -> Out
+    ensures { result ≡ refused refusal arbiter voter }
 {
     Out {
-        answer: Answer::Refused(number),
+        answer: Err(refusal),
         site: arbiter,
         node: voter,
     }
@@ -114,43 +100,19 @@ fn done(sent: Sent, site: Site, held: Store, voter: Voter) -> Out
     ensures { result ≡ done sent site held voter }
 {
     Out {
-        answer: Answer::Done(sent),
+        answer: Ok(sent),
         site: Arbiter { site, held },
         node: voter,
     }
 }
 
-fn with_made(site: Site, made: Store) -> Site
-    ensures { result ≡ with_made site made }
-{
-    let mut next = site;
-    next.made = made;
-    next
-}
-
-fn with_down(site: Site, down: u16) -> Site
-    ensures { result ≡ with_down site down }
-{
-    let mut next = site;
-    next.down = down;
-    next
-}
-
-fn with_breaker(site: Site, breaker: Breaker) -> Site
-    ensures { result ≡ with_breaker site breaker }
-{
-    let mut next = site;
-    next.breaker = breaker;
-    next
-}
-
 // The message of a node, as its share.
-fn shares_of(message: Known) -> Pairs
+fn shares_of(message: Option<Pair>) -> Pairs
     ensures { result ≡ shares_of message }
 {
     match message {
-        Known::Yes(p) => Pairs::One(p),
-        Known::No => Pairs::Zero,
+        Some(p) => Pairs::One(p),
+        None => Pairs::Zero,
     }
 }
 
@@ -159,13 +121,14 @@ fn shares_of(message: Known) -> Pairs
 fn start(arbiter: Arbiter, lent: usize, voter: Voter, beginning: Beginning) -> Out
     ensures { result ≡ stepped arbiter lent voter (Step.Start beginning) }
 {
-    let refusal = refusing::refuse_start(lent, beginning);
-    if refusal != 0 {
-        return refused(refusal, arbiter, voter);
+    match refusing::refuse_start(lent, beginning) {
+        Ok(_) => {
+            let site = effects::fresh_site(beginning);
+            let held = Store::empty(beginning.g);
+            done(silence(), site, held, voter)
+        }
+        Err(refusal) => refused(refusal, arbiter, voter),
     }
-    let site = effects::fresh_site(beginning);
-    let held = Store::empty(beginning.g);
-    done(silence(), site, held, voter)
 }
 
 fn tick(arbiter: Arbiter, lent: usize, voter: Voter) -> Out
@@ -173,14 +136,15 @@ fn tick(arbiter: Arbiter, lent: usize, voter: Voter) -> Out
 {
     let site = arbiter.site;
     let sound = is_sound(arbiter, lent);
-    let refusal = refusing::refuse_tick(sound, site);
-    if refusal != 0 {
-        return refused(refusal, arbiter, voter);
+    match refusing::refuse_tick(sound, site) {
+        Ok(_) => {
+            let old = site.made;
+            let made = effects::tick(old);
+            let held = arbiter.held;
+            done(silence(), Site { made, ..site }, held, voter)
+        }
+        Err(refusal) => refused(refusal, arbiter, voter),
     }
-    let old = site.made;
-    let made = effects::tick(old);
-    let held = arbiter.held;
-    done(silence(), with_made(site, made), held, voter)
 }
 
 fn at_node(arbiter: Arbiter, lent: usize, voter: Voter, i: u8, t: Dts, event: Event) -> Out
@@ -189,24 +153,25 @@ fn at_node(arbiter: Arbiter, lent: usize, voter: Voter, i: u8, t: Dts, event: Ev
     let site = arbiter.site;
     let node = in_peer_site(voter);
     let sound = is_sound_at(arbiter, lent, node, i);
-    let refusal = refusing::refuse_event(sound, site, node, i, t, in_peer(event));
-    if refusal != 0 {
-        return refused(refusal, arbiter, voter);
+    match refusing::refuse_event(sound, site, node, i, t, in_peer(event)) {
+        Ok(_) => {
+            let breaker = site.breaker;
+            let voted = vote(breaker, voter, t, event);
+            let after = voted.voter;
+            let message = voted.message;
+            let shares = shares_of(message);
+            let old = site.made;
+            let made = combining::put_all(old, i, shares);
+            let held = arbiter.held;
+            let sent = Sent {
+                shares,
+                commands: Pairs::Zero,
+                ack: None,
+            };
+            done(sent, Site { made, ..site }, held, after)
+        }
+        Err(refusal) => refused(refusal, arbiter, voter),
     }
-    let breaker = site.breaker;
-    let voted = vote(breaker, voter, t, event);
-    let after = voted.voter;
-    let message = voted.message;
-    let shares = shares_of(message);
-    let old = site.made;
-    let made = combining::put_all(old, i, shares);
-    let held = arbiter.held;
-    let sent = Sent {
-        shares,
-        commands: Pairs::Zero,
-        ack: Known::No,
-    };
-    done(sent, with_made(site, made), held, after)
 }
 
 fn life(arbiter: Arbiter, lent: usize, voter: Voter, i: u8, turn: Turn) -> Out
@@ -215,15 +180,17 @@ fn life(arbiter: Arbiter, lent: usize, voter: Voter, i: u8, turn: Turn) -> Out
     let site = arbiter.site;
     let node = in_peer_site(voter);
     let sound = is_sound_at(arbiter, lent, node, i);
-    let refusal = refusing::refuse_turn(sound, site, node, i, turn);
-    if refusal != 0 {
-        return refused(refusal, arbiter, voter);
+    match refusing::refuse_turn(sound, site, node, i, turn) {
+        Ok(_) => {
+            let turned = effects::turn(site.down, i, turn);
+            let left = turned.node;
+            let after = of_peer(left);
+            let held = arbiter.held;
+            let down = turned.down;
+            done(silence(), Site { down, ..site }, held, after)
+        }
+        Err(refusal) => refused(refusal, arbiter, voter),
     }
-    let turned = effects::turn(site.down, i, turn);
-    let left = turned.node;
-    let after = of_peer(left);
-    let held = arbiter.held;
-    done(silence(), with_down(site, turned.down), held, after)
 }
 
 fn at_breaker(arbiter: Arbiter, lent: usize, voter: Voter, t: Dts, message: Message) -> Out
@@ -231,22 +198,23 @@ fn at_breaker(arbiter: Arbiter, lent: usize, voter: Voter, t: Dts, message: Mess
 {
     let site = arbiter.site;
     let sound = is_sound(arbiter, lent);
-    let refusal = refuse_message(sound, site, t, message);
-    if refusal != 0 {
-        return refused(refusal, arbiter, voter);
+    match refuse_message(sound, site, t, message) {
+        Ok(_) => {
+            let old = site.breaker;
+            let holding = arbiter.held;
+            let out = arbitrate(old, holding, site.f, t, message);
+            let breaker = out.breaker;
+            let held = out.held;
+            let ack = out.ack;
+            let sent = Sent {
+                shares: Pairs::Zero,
+                commands: Pairs::Zero,
+                ack,
+            };
+            done(sent, Site { breaker, ..site }, held, voter)
+        }
+        Err(refusal) => refused(refusal, arbiter, voter),
     }
-    let old = site.breaker;
-    let holding = arbiter.held;
-    let out = arbitrate(old, holding, site.f, t, message);
-    let breaker = out.breaker;
-    let held = out.held;
-    let ack = out.ack;
-    let sent = Sent {
-        shares: Pairs::Zero,
-        commands: Pairs::Zero,
-        ack,
-    };
-    done(sent, with_breaker(site, breaker), held, voter)
 }
 
 // Any step.

@@ -1,6 +1,6 @@
 -- What a step of an Arbiter site is, and what it names: the steps that 01's site has too name what they name there, and a message is "Deliver, with the breaker
 -- as receiver" (§3 of 02).
-use Rattle.std.proofs.Math.Option.{none, some}
+use Rattle.std.specs.Prelude.{Some, None}
 use Rattle.steps.specs.declared.Event.{Event as PeerEvent}
 use Rattle.steps.specs.declared.Event.TheVariants as Peer
 use Rattle.steps.specs.declared.Step.TheVariants as PeerStep
@@ -29,4 +29,4 @@ named (Start b) = PeerNamed.named (PeerStep.Start b)
 named Tick = PeerNamed.named PeerStep.Tick
 named (AtNode i t event) = PeerNamed.named (PeerStep.AtNode i t (in_peer event))
 named (Life i turn) = PeerNamed.named (PeerStep.Life i turn)
-named (AtBreaker t m) = record { actor = none; clock = some t; beginning = none; said = said_by (delivered m) }
+named (AtBreaker t m) = record { actor = None; clock = Some t; beginning = None; said = said_by (delivered m) }

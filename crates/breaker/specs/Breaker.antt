@@ -1,12 +1,10 @@
 -- The breaker: "Start gives .. breaker status and g .. The breaker's stamp is g, with no change remembered."
-use Rattle.std.specs.Prelude.{ℕ, ◌+◌, ◌-◌, Bool, true, ◌&&◌, cond, List, [], ◌∷◌, eqb, leb, ltb, get_or}
+use Rattle.std.specs.Prelude.{ℕ, ◌+◌, ◌-◌, Bool, true, ◌&&◌, cond, List, [], ◌∷◌, eqb, leb, ltb, get_or, Option, None, Some}
 use Rattle.time.specs.declared.Dts.{Dts}
 use Rattle.time.specs.Larger.{larger}
 use Rattle.time.specs.Limits.{stamp_sound, clock_sound}
 use Rattle.tables.specs.Tables.{table}
 use Rattle.pairs.specs.declared.Pair.{Pair}
-use Rattle.pairs.specs.declared.Known.{Known}
-use Rattle.pairs.specs.declared.Known.TheVariants.{Yes, No}
 use Rattle.pairs.specs.Pair.{pair}
 use Rattle.breaker.specs.declared.Changes.{Changes}
 use Rattle.breaker.specs.declared.Breaker.{Breaker}
@@ -53,9 +51,9 @@ unfoldable pub after_command : Breaker → Dts → ℕ → Dts → Breaker
 after_command breaker t status T = cond (repeats breaker status) (answered breaker t) (changed breaker t status T)
 
 -- "Delivers the breaker's change number `back` from the newest (0), of the last eight."
-unfoldable pub change_at : Breaker → ℕ → Known
+unfoldable pub change_at : Breaker → ℕ → Option Pair
 change_at breaker back =
-    cond (ltb back breaker.changes.count && ltb back most_changes) (Yes (pair_at breaker.changes back)) No
+    cond (ltb back breaker.changes.count && ltb back most_changes) (Some (pair_at breaker.changes back)) None
 
 -- ---- 16: "status as above; .. at most eight changes; stamps and clock to 1,000,000,003"
 

@@ -5,63 +5,53 @@ ghost use Rattle.std.specs.Prelude.{◌≡◌};
 ghost use Rattle.combining.specs.Combining.{commanding, combined, ended, put_all, followed, finished};
 
 use node::asked::is_attempt;
-use node::{Acted, Changed, Node, Phase, Record, Resend};
-use pairs::{Known, Pair, Pairs};
-use store::{Earliest, Store};
+use node::{Acted, Changed, Node, Phase, Record};
+use pairs::{Pair, Pairs};
+use store::Store;
 use time::Dts;
 
 // A record after the combining rule, and the command that it sends.
 #[derive(Clone, Copy)]
 pub struct Combined {
     pub rec: Record,
-    pub command: Known,
+    pub command: Option<Pair>,
 }
 
-// A phase at the end of an event, and the command that the combining rule sends.
+// A phase at the end of an event, and the command that the combining rule sends. What comes first is a record there and a phase here, and is called so in the
+// definitions and the laws (`combined`, `ended`): one type for both would call it neither.
 #[derive(Clone, Copy)]
 pub struct Ended {
     pub phase: Phase,
-    pub command: Known,
+    pub command: Option<Pair>,
 }
 
 fn command(rec: Record, stamp: Dts) -> Combined
-    ensures { result ≡ commanding rec (Earliest.Stamp stamp) }
+    ensures { result ≡ commanding rec (Some stamp) }
 {
-    let r = rec.r;
-    let second = rec.second;
-    let number = rec.number;
     let sent = Pair {
-        status: r.status,
+        status: rec.r.status,
         stamp,
     };
-    let next = Record {
-        r,
-        b: sent,
-        second,
-        number,
-        resend: Resend::Armed(stamp),
-    };
     Combined {
-        rec: next,
-        command: Known::Yes(sent),
+        rec: Record {
+            b: sent,
+            resend: Some(stamp),
+            ..rec
+        },
+        command: Some(sent),
     }
 }
 
+#[tactic(auto, unfolding(crate::specs::Combining::combined))]
 pub fn combine(rec: Record, store: Store, f: u8) -> Combined
     ensures { result ≡ combined rec store f }
 {
-    let r = rec.r;
-    let b = rec.b;
-    if is_attempt(r, b) {
-        let found = store.earliest(r.status, b.stamp, f);
-        if let Earliest::Stamp(stamp) = found {
+    if is_attempt(rec.r, rec.b) {
+        if let Some(stamp) = store.earliest(rec.r.status, rec.b.stamp, f) {
             return command(rec, stamp);
         }
     }
-    Combined {
-        rec,
-        command: Known::No,
-    }
+    Combined { rec, command: None }
 }
 
 fn end(phase: Phase, store: Store, f: u8) -> Ended
@@ -70,45 +60,39 @@ fn end(phase: Phase, store: Store, f: u8) -> Ended
     let Phase::Running(rec) = phase else {
         return Ended {
             phase,
-            command: Known::No,
+            command: None,
         };
     };
     let after = combine(rec, store, f);
-    let next = after.rec;
-    let command = after.command;
     Ended {
-        phase: Phase::Running(next),
-        command,
+        phase: Phase::Running(after.rec),
+        command: after.command,
     }
 }
 
 // The store with shares of a sender's.
+#[tactic(auto, unfolding(crate::specs::Combining::put_all))]
 pub fn put_all(store: Store, sender: u8, shares: Pairs) -> Store
     ensures { result ≡ put_all store sender shares }
 {
     match shares {
         Pairs::Zero => store,
         Pairs::One(p) => store.put(sender, p.status, p.stamp),
-        Pairs::Two(p, q) => {
-            let first = store.put(sender, p.status, p.stamp);
-            first.put(sender, q.status, q.stamp)
-        }
+        Pairs::Two(p, q) => store
+            .put(sender, p.status, p.stamp)
+            .put(sender, q.status, q.stamp),
     }
 }
 
 // The commands of a step: the event's own, then that of the combining rule.
-fn follow(before: Known, command: Known) -> Pairs
+fn follow(before: Option<Pair>, command: Option<Pair>) -> Pairs
     ensures { result ≡ followed before command }
 {
-    match before {
-        Known::Yes(p) => match command {
-            Known::Yes(q) => Pairs::Two(p, q),
-            Known::No => Pairs::One(p),
-        },
-        Known::No => match command {
-            Known::Yes(q) => Pairs::One(q),
-            Known::No => Pairs::Zero,
-        },
+    match (before, command) {
+        (Some(p), Some(q)) => Pairs::Two(p, q),
+        (Some(p), None) => Pairs::One(p),
+        (None, Some(q)) => Pairs::One(q),
+        (None, None) => Pairs::Zero,
     }
 }
 
@@ -116,23 +100,17 @@ fn follow(before: Known, command: Known) -> Pairs
 pub fn finish(change: Changed, store: Store, i: u8, f: u8) -> Acted
     ensures { result ≡ finished change store i f }
 {
-    let phase = change.phase;
-    let shares = change.shares;
-    let before = change.command;
-    let own = match shares {
+    let own = match change.shares {
         Pairs::Zero => store,
-        _ => put_all(store, i, shares),
+        shares => put_all(store, i, shares),
     };
-    let at_end = end(phase, own, f);
-    let next = at_end.phase;
-    let command = at_end.command;
-    let commands = follow(before, command);
+    let at_end = end(change.phase, own, f);
     Acted {
         node: Node {
-            phase: next,
+            phase: at_end.phase,
             store: own,
         },
-        shares,
-        commands,
+        shares: change.shares,
+        commands: follow(change.command, at_end.command),
     }
 }

@@ -1,9 +1,9 @@
 -- "Both sides of each edge": P1 to P10, and beside P1 the edge of the default interval, by a single statement over one list.
 use Rattle.std.specs.Prelude.{ℕ, ◌≡◌, refl, Bool, true, false, not, ◌&&◌, List, [], ◌∷◌, eqb}
-use Rattle.refusals.specs.Tests.{refusal, passed}
+use Rattle.refusals.specs.Tests.{refusal}
 use Rattle.time.specs.declared.Micros.{Micros}
 use Rattle.time.specs.declared.Dts.{Dts}
-use Rattle.time.specs.Discretising.{discretised_by, discretised, default_interval}
+use Rattle.time.specs.Discretising.{discretised_by, discretised, default_interval, in_numbers}
 use Rattle.time.specs.Fresh.{fresh_at}
 use Rattle.time.specs.Newer.{newer, ahead}
 use Rattle.senders.specs.Sets.{count_below}
@@ -41,7 +41,7 @@ micros n = record { 0 = n }
 -- a reading, discretised at an interval, is accepted and gives that stamp
 abbrev gives : ℕ → Micros → ℕ → Bool
 gives reading interval stamp =
-    eqb (discretised (micros reading) interval).refusal 0 && eqb (discretised (micros reading) interval).stamp.0 stamp
+    let d = in_numbers (discretised (micros reading) interval) in eqb d.refusal 0 && eqb d.stamp.0 stamp
 
 abbrev is_attempt : ℕ → State → Bool
 is_attempt A (Done B) = false
@@ -110,5 +110,5 @@ all [] = true
 all (e ∷ es) = e.1 && all es
 
 pub every-edge : all edges ≡ true
-unfolding edges discretised_by refusal passed state newer ahead size count_below is_in joined within together stepped tests_of effect_of site_sound sets_sound store_within breaker_sound changes_sound commanded after_command changed remembered started started_site senders_of has_place put empty table went_down
+unfolding edges discretised_by refusal state newer ahead size count_below is_in joined within together stepped tests_of effect_of site_sound sets_sound store_within breaker_sound changes_sound commanded after_command changed remembered started started_site senders_of has_place put empty table went_down
 every-edge = refl

@@ -1,9 +1,9 @@
 -- Both sides of each edge that §6 of 02 has: of rounding to nearest, and of a pair. One list, as that of the edges marked P, over the same site.
-use Rattle.std.specs.Prelude.{ℕ, ◌≡◌, refl, Bool, true, false, not, ◌&&◌, List, [], ◌∷◌, eqb}
-use Rattle.refusals.specs.Tests.{refusal, passed}
+use Rattle.std.specs.Prelude.{ℕ, ◌≡◌, refl, Bool, true, false, not, ◌&&◌, List, [], ◌∷◌, eqb, Some, None, Ok, Err}
+use Rattle.refusals.specs.Tests.{refusal}
 use Rattle.time.specs.declared.Rounding.{Rounding}
 use Rattle.time.specs.declared.Rounding.TheVariants.{Down, Nearest}
-use Rattle.time.specs.Discretising.{discretised_by}
+use Rattle.time.specs.Discretising.{discretised_by, in_numbers}
 use Rattle.time.specs.Fresh.{next}
 use Rattle.senders.specs.Sets.{count_below}
 use Rattle.senders.specs.Masks.{is_in, size, joined, within, together}
@@ -13,10 +13,7 @@ use Rattle.store.specs.Store.{empty, put, moved_to, turn, left_at, has_place, se
 use Rattle.store.specs.Held.{held}
 use Rattle.store.specs.Earliest.{earliest, qualifies}
 use Rattle.pairs.specs.declared.Pair.{Pair}
-use Rattle.pairs.specs.declared.Known.TheVariants.{Yes}
 use Rattle.pairs.specs.Pair.{pair, listed}
-use Rattle.node.specs.declared.Last.TheVariants.{Unknown}
-use Rattle.node.specs.declared.Resend.TheVariants.{Off}
 use Rattle.node.specs.declared.Phase.TheVariants.{Running}
 use Rattle.node.specs.declared.Node.{Node}
 use Rattle.node.specs.Asked.{node_in_range, node_sound}
@@ -29,9 +26,7 @@ use Rattle.steps.specs.declared.Step.TheVariants.{AtNode}
 use Rattle.site.specs.declared.Site.{Site}
 use Rattle.site.specs.Site.{sets_sound, site_sound, actor_sound}
 use Rattle.refusing.specs.Tests.{tests_of}
-use Rattle.site.specs.declared.Answer.{Answer}
-use Rattle.site.specs.declared.Answer.TheVariants.{Done, Refused}
-use Rattle.site.specs.Answers.{number_of}
+use Rattle.site.specs.Answers.{number_of, Answer}
 use Rattle.effects.specs.Effects.{started_site, with_made, act, effect_of}
 use Rattle.stepping.specs.Steps.{stepped}
 use Rattle.edges.specs.Edges.{CLOSE, TRIP, at, site, beginning}
@@ -41,7 +36,7 @@ use Rattle.edges.specs.Edges.{CLOSE, TRIP, at, site, beginning}
 -- a reading, rounded so at an interval, is answered with this number and gives this stamp
 abbrev gives : Rounding → ℕ → ℕ → ℕ → ℕ → Bool
 gives rounding reading interval number stamp =
-    let d = discretised_by rounding (record { 0 = reading }) (record { 0 = interval }) in eqb d.refusal number && eqb d.stamp.0 stamp
+    let d = in_numbers (discretised_by rounding (record { 0 = reading }) (record { 0 = interval })) in eqb d.refusal number && eqb d.stamp.0 stamp
 
 -- ---- a pair at node 1, whose clock is 100 and whose own shares of TRIP at 100 and 101 are held; b is (CLOSE, 99), so that it attempts to trip
 
@@ -51,7 +46,7 @@ own = put (put (empty (at 100)) 1 TRIP (at 100)) 1 TRIP (at 101)
 abbrev node : Node
 node =
     record {
-      phase = Running (record { r = pair TRIP (at 100); b = pair CLOSE (at 99); second = Yes (pair CLOSE (at 99)); number = Unknown; resend = Off });
+      phase = Running (record { r = pair TRIP (at 100); b = pair CLOSE (at 99); second = Some (pair CLOSE (at 99)); number = None; resend = None });
       store = own;
     }
 
@@ -69,8 +64,8 @@ one_for T (p ∷ []) = eqb p.status TRIP && eqb p.stamp.0 T
 one_for T (p ∷ q ∷ more) = false
 
 abbrev commands_of : Answer → List Pair
-commands_of (Done sent) = listed sent.commands
-commands_of (Refused number) = []
+commands_of (Ok sent) = listed sent.commands
+commands_of (Err refusal) = []
 
 abbrev sends : Event → ℕ → Bool
 sends event T = one_for T (commands_of (stepped site 12 node (AtNode 1 (at 100) event)).answer)
@@ -117,5 +112,5 @@ all [] = true
 all (e ∷ es) = e && all es
 
 pub every-edge : all edges ≡ true
-unfolding edges discretised_by refusal passed next held size count_below is_in joined within together stepped tests_of effect_of act acted finished combined put_all changed_by stored earliest qualifies site_sound sets_sound actor_sound node_in_range node_sound store_within breaker_sound changes_sound started started_site senders_of has_place put moved_to turn left_at empty table
+unfolding edges discretised_by refusal next held size count_below is_in joined within together stepped tests_of effect_of act acted finished combined put_all changed_by stored earliest qualifies site_sound sets_sound actor_sound node_in_range node_sound store_within breaker_sound changes_sound started started_site senders_of has_place put moved_to turn left_at empty table
 every-edge = refl

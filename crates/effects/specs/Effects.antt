@@ -1,11 +1,10 @@
 -- What each step does once its tests are passed: the site and the acting node's record afterwards, and what is sent.
-use Rattle.std.specs.Prelude.{ℕ, true, false, cond}
+use Rattle.std.specs.Prelude.{ℕ, true, false, cond, Some, None}
 use Rattle.time.specs.declared.Dts.{Dts}
 use Rattle.time.specs.Fresh.{next}
 use Rattle.senders.specs.Masks.{is_in, joined, without}
 use Rattle.store.specs.Store.{empty, moved_to}
 use Rattle.pairs.specs.declared.Pair.{Pair}
-use Rattle.pairs.specs.declared.Known.TheVariants.{Yes, No}
 use Rattle.pairs.specs.declared.Pairs.TheVariants.{Zero}
 use Rattle.steps.specs.declared.Beginning.{Beginning}
 use Rattle.steps.specs.declared.Event.{Event}
@@ -107,14 +106,14 @@ ticked site = with_made site (made_later site.made)
 -- the end of an event at node i: what it made of the node, what it sends, and the shares that the site now knows to be made
 abbrev pub noted : Site → ℕ → Acted → Out
 noted site i end =
-    done (record { shares = end.shares; commands = end.commands; ack = No }) (with_made site (put_all site.made i end.shares)) end.node
+    done (record { shares = end.shares; commands = end.commands; ack = None }) (with_made site (put_all site.made i end.shares)) end.node
 
 unfoldable pub act : Site → Node → ℕ → Dts → Event → Out
 act site node i t event = noted site i (acted site.breaker node i site.f t event)
 
 -- an ack, and nothing else
 abbrev pub only_ack : Pair → Sent
-only_ack p = record { shares = Zero; commands = Zero; ack = Yes p }
+only_ack p = record { shares = Zero; commands = Zero; ack = Some p }
 
 -- A change "sends the ack of that pair"; a repeated command "sends the ack of the breaker's present pair" (§4 of 02). Both are the pair that the
 -- breaker then has.

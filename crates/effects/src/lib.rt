@@ -33,38 +33,35 @@ pub struct Turned {
 pub fn no_site() -> Site
     ensures { result ≡ no_site }
 {
-    let breaker = breaker::start(0, Dts(0));
-    let made = Store::empty(Dts(0));
     Site {
         started: false,
         f: 0,
         k: 0,
         compromised: 0,
         down: 0,
-        breaker,
-        made,
+        breaker: breaker::start(0, Dts(0)),
+        made: Store::empty(Dts(0)),
     }
 }
 
 // The site that a Start makes.
+#[tactic(auto, unfolding(crate::specs::Effects::started_site))]
 pub fn fresh_site(beginning: Beginning) -> Site
     ensures { result ≡ started_site beginning }
 {
-    let g = beginning.g;
-    let breaker = breaker::start(beginning.status, g);
-    let made = Store::empty(g);
     Site {
         started: true,
         f: beginning.f,
         k: beginning.k,
         compromised: beginning.compromised,
         down: 0,
-        breaker,
-        made,
+        breaker: breaker::start(beginning.status, beginning.g),
+        made: Store::empty(beginning.g),
     }
 }
 
 // The record of a node at the start.
+#[tactic(auto, unfolding(crate::specs::Effects::first_record))]
 pub fn first_record(compromised: u16, i: u8) -> Node
     ensures { result ≡ first_record compromised i }
 {
@@ -86,28 +83,16 @@ pub fn tick(made: Store) -> Store
 pub fn note(site: Site, node: Node, i: u8, t: Dts, event: Event) -> Noted
     ensures { result ≡ noted_of site node i t event }
 {
-    let breaker = site.breaker;
-    let acted = acting::act(breaker, node, i, site.f, t, event);
-    let after = acted.node;
-    let shares = acted.shares;
-    let commands = acted.commands;
-    let old = site.made;
-    match shares {
-        Pairs::Zero => Noted {
-            node: after,
-            made: old,
-            shares: Pairs::Zero,
-            commands,
-        },
-        _ => {
-            let made = combining::put_all(old, i, shares);
-            Noted {
-                node: after,
-                made,
-                shares,
-                commands,
-            }
-        }
+    let acted = acting::act(site.breaker, node, i, site.f, t, event);
+    let made = match acted.shares {
+        Pairs::Zero => site.made,
+        shares => combining::put_all(site.made, i, shares),
+    };
+    Noted {
+        node: acted.node,
+        made,
+        shares: acted.shares,
+        commands: acted.commands,
     }
 }
 

@@ -2,11 +2,11 @@
 #![tactic(auto)]
 
 ghost use Rattle.std.specs.Prelude.{◌≡◌};
-ghost use Rattle.events.specs.Events.{unchanged, once_known, begun, store_at, kept, report_stamp, report_shares, report_running, report_starting, report_r, reported, share_timed_out, sent_again, returned, given_up, resend_timed_out, later, later_than, ack_resend, ack_running, ack_starting, acked, queried, went_down, went_up};
+ghost use Rattle.events.specs.Events.{unchanged, once_known, begun, store_at, kept, report_stamp, report_shares, report_running, report_starting, report_r, reported, share_timed_out, sent_again, given_up, resend_timed_out, later, later_than, ack_resend, ack_running, ack_starting, acked, queried, went_down, went_up};
 
 use node::asked::{is_attempt, is_done, known_b};
-use node::{Changed, Last, Learned, Node, Phase, Record, Resend};
-use pairs::{Known, Pair, Pairs};
+use node::{Changed, Learned, Node, Phase, Record};
+use pairs::{Pair, Pairs};
 use store::Store;
 use time::Dts;
 
@@ -17,7 +17,7 @@ pub fn unchanged(phase: Phase) -> Changed
     Changed {
         phase,
         shares: Pairs::Zero,
-        command: Known::No,
+        command: None,
     }
 }
 
@@ -25,32 +25,26 @@ pub fn unchanged(phase: Phase) -> Changed
 fn join(learned: Learned) -> Phase
     ensures { result ≡ once_known learned }
 {
-    let known_r = learned.r;
-    let known_b = learned.b;
-    let second = learned.second;
-    let number = learned.number;
-    let Known::Yes(r) = known_r else {
-        return Phase::Starting(learned);
-    };
-    let Known::Yes(b) = known_b else {
-        return Phase::Starting(learned);
-    };
-    Phase::Running(Record {
-        r,
-        b,
-        second,
-        number,
-        resend: Resend::Off,
-    })
+    match (learned.r, learned.b) {
+        (Some(r), Some(b)) => Phase::Running(Record {
+            r,
+            b,
+            second: learned.second,
+            number: learned.number,
+            resend: None,
+        }),
+        _ => Phase::Starting(learned),
+    }
 }
 
+#[tactic(auto, unfolding(crate::specs::Events::begun))]
 fn begin(learned: Learned) -> Changed
     ensures { result ≡ begun learned }
 {
     Changed {
         phase: join(learned),
         shares: Pairs::Zero,
-        command: Known::No,
+        command: None,
     }
 }
 
@@ -66,36 +60,34 @@ pub fn store_at(phase: Phase, store: Store, t: Dts) -> Store
 }
 
 // Resend as it is after r and b changed: leaving Done disarms it.
-fn keep_resend(rec: Record, r: Pair, b: Pair) -> Resend
+#[tactic(auto, unfolding(crate::specs::Events::kept))]
+fn keep_resend(rec: Record, r: Pair, b: Pair) -> Option<Dts>
     ensures { result ≡ kept rec r b }
 {
     let was = is_done(rec.r, rec.b);
     let is = is_done(r, b);
-    if was & !is { Resend::Off } else { rec.resend }
+    if was & !is { None } else { rec.resend }
 }
 
 // The stamp that a report gives r, for what the node knows of the breaker.
-fn report_stamp(b: Known, t: Dts) -> Dts
+fn report_stamp(b: Option<Pair>, t: Dts) -> Dts
     ensures { result ≡ report_stamp b t }
 {
-    match b {
-        Known::Yes(pair) => time::larger(t, pair.stamp),
-        Known::No => t,
-    }
+    b.map_or(t, |pair| time::larger(t, pair.stamp))
 }
 
 // r after a report.
 fn report_r(phase: Phase, t: Dts, status: u8) -> Pair
     ensures { result ≡ report_r phase t status }
 {
-    let known = known_b(phase);
     Pair {
         status,
-        stamp: report_stamp(known, t),
+        stamp: report_stamp(known_b(phase), t),
     }
 }
 
 // The shares of a report: two where the node enters Attempt.
+#[tactic(auto, unfolding(crate::specs::Events::report_shares))]
 fn report_shares(old: Pair, r: Pair, b: Pair, t: Dts) -> Pairs
     ensures { result ≡ report_shares old r b t }
 {
@@ -116,40 +108,35 @@ fn report_shares(old: Pair, r: Pair, b: Pair, t: Dts) -> Pairs
     }
 }
 
+#[tactic(auto, unfolding(crate::specs::Events::report_running))]
 fn report_running(rec: Record, r: Pair, t: Dts, number: u32) -> Changed
     ensures { result ≡ report_running rec r t number }
 {
-    let b = rec.b;
-    let second = rec.second;
-    let resend = keep_resend(rec, r, b);
     let next = Record {
         r,
-        b,
-        second,
-        number: Last::Number(number),
-        resend,
+        number: Some(number),
+        resend: keep_resend(rec, r, rec.b),
+        ..rec
     };
-    let shares = report_shares(rec.r, r, b, t);
     Changed {
         phase: Phase::Running(next),
-        shares,
-        command: Known::No,
+        shares: report_shares(rec.r, r, rec.b, t),
+        command: None,
     }
 }
 
+#[tactic(auto, unfolding(crate::specs::Events::report_starting))]
 fn report_starting(learned: Learned, r: Pair, number: u32) -> Changed
     ensures { result ≡ report_starting learned r number }
 {
-    let b = learned.b;
-    let second = learned.second;
     begin(Learned {
-        r: Known::Yes(r),
-        b,
-        second,
-        number: Last::Number(number),
+        r: Some(r),
+        number: Some(number),
+        ..learned
     })
 }
 
+#[tactic(auto, unfolding(crate::specs::Events::reported))]
 pub fn report(phase: Phase, t: Dts, status: u8, number: u32) -> Changed
     ensures { result ≡ reported phase t status number }
 {
@@ -161,6 +148,7 @@ pub fn report(phase: Phase, t: Dts, status: u8, number: u32) -> Changed
     }
 }
 
+#[tactic(auto, unfolding(crate::specs::Events::share_timed_out))]
 pub fn share_timeout(phase: Phase, t: Dts) -> Changed
     ensures { result ≡ share_timed_out phase t }
 {
@@ -174,7 +162,7 @@ pub fn share_timeout(phase: Phase, t: Dts) -> Changed
     Changed {
         phase,
         shares: Pairs::One(share),
-        command: Known::No,
+        command: None,
     }
 }
 
@@ -189,130 +177,96 @@ fn send_again(rec: Record, stamp: Dts) -> Changed
     Changed {
         phase: Phase::Running(rec),
         shares: Pairs::Zero,
-        command: Known::Yes(command),
+        command: Some(command),
     }
 }
 
-// b as it was acknowledged or queried; 16 lets no running record pass that has no second pair.
-fn return_to(second: Known, b: Pair) -> Pair
-    ensures { result ≡ returned second b }
-{
-    match second {
-        Known::Yes(pair) => pair,
-        Known::No => b,
-    }
-}
-
-// The stamp being resent is given up.
+// The stamp being resent is given up: b is again as it was acknowledged or queried. 16 lets no running record pass that has no second pair.
+#[tactic(auto, unfolding(crate::specs::Events::given_up))]
 fn give_up(rec: Record) -> Changed
     ensures { result ≡ given_up rec }
 {
-    let reported = rec.r;
-    let second = rec.second;
-    let number = rec.number;
-    let b = return_to(second, rec.b);
-    let disarmed = Resend::Off;
     let next = Record {
-        r: reported,
-        b,
-        second,
-        number,
-        resend: disarmed,
+        b: rec.second.unwrap_or(rec.b),
+        resend: None,
+        ..rec
     };
     Changed {
         phase: Phase::Running(next),
         shares: Pairs::Zero,
-        command: Known::No,
+        command: None,
     }
 }
 
+#[tactic(auto, unfolding(crate::specs::Events::resend_timed_out))]
 pub fn resend_timeout(phase: Phase, t: Dts) -> Changed
     ensures { result ≡ resend_timed_out phase t }
 {
     let Phase::Running(rec) = phase else {
         return unchanged(phase);
     };
-    let resend = rec.resend;
-    let Resend::Armed(stamp) = resend else {
-        return unchanged(phase);
-    };
-    if time::is_fresh(stamp, t) {
-        return send_again(rec, stamp);
+    match rec.resend {
+        Some(stamp) if time::is_fresh(stamp, t) => send_again(rec, stamp),
+        Some(_) => give_up(rec),
+        None => unchanged(phase),
     }
-    give_up(rec)
 }
 
 // b after an ack, and so the second pair: an older change leaves it.
 fn later(b: Pair, change: Pair) -> Pair
     ensures { result ≡ later b change }
 {
-    if b.stamp.0 <= change.stamp.0 {
-        change
-    } else {
-        b
-    }
+    if b.stamp <= change.stamp { change } else { b }
 }
 
-fn later_than(b: Known, change: Pair) -> Pair
+fn later_than(b: Option<Pair>, change: Pair) -> Pair
     ensures { result ≡ later_than b change }
 {
-    match b {
-        Known::Yes(pair) => later(pair, change),
-        Known::No => change,
-    }
+    b.map_or(change, |pair| later(pair, change))
 }
 
 // Resend after an ack that leaves b so.
-fn ack_resend(rec: Record, b: Pair, change: Pair) -> Resend
+#[tactic(auto, unfolding(crate::specs::Events::ack_resend))]
+fn ack_resend(rec: Record, b: Pair, change: Pair) -> Option<Dts>
     ensures { result ≡ ack_resend rec b change }
 {
     if is_done(change, rec.b) {
-        Resend::Off
+        None
     } else {
         keep_resend(rec, rec.r, b)
     }
 }
 
+#[tactic(auto, unfolding(crate::specs::Events::ack_running))]
 fn ack_running(rec: Record, change: Pair) -> Changed
     ensures { result ≡ ack_running rec change }
 {
-    let r = rec.r;
-    let number = rec.number;
-    let known = rec.second;
     let b = later(rec.b, change);
-    let second = later_than(known, change);
-    let resend = ack_resend(rec, b, change);
     let next = Record {
-        r,
         b,
-        second: Known::Yes(second),
-        number,
-        resend,
+        second: Some(later_than(rec.second, change)),
+        resend: ack_resend(rec, b, change),
+        ..rec
     };
     Changed {
         phase: Phase::Running(next),
         shares: Pairs::Zero,
-        command: Known::No,
+        command: None,
     }
 }
 
+#[tactic(auto, unfolding(crate::specs::Events::ack_starting))]
 fn ack_starting(learned: Learned, change: Pair) -> Changed
     ensures { result ≡ ack_starting learned change }
 {
-    let r = learned.r;
-    let number = learned.number;
-    let known_b = learned.b;
-    let known = learned.second;
-    let b = later_than(known_b, change);
-    let second = later_than(known, change);
     begin(Learned {
-        r,
-        b: Known::Yes(b),
-        second: Known::Yes(second),
-        number,
+        b: Some(later_than(learned.b, change)),
+        second: Some(later_than(learned.second, change)),
+        ..learned
     })
 }
 
+#[tactic(auto, unfolding(crate::specs::Events::acked))]
 pub fn ack(phase: Phase, change: Pair) -> Changed
     ensures { result ≡ acked phase change }
 {
@@ -323,23 +277,22 @@ pub fn ack(phase: Phase, change: Pair) -> Changed
     }
 }
 
+#[tactic(auto, unfolding(crate::specs::Events::queried))]
 pub fn query(phase: Phase, breaker: Pair) -> Changed
     ensures { result ≡ queried phase breaker }
 {
     let Phase::Starting(learned) = phase else {
         return unchanged(phase);
     };
-    let r = learned.r;
-    let number = learned.number;
     begin(Learned {
-        r,
-        b: Known::Yes(breaker),
-        second: Known::Yes(breaker),
-        number,
+        b: Some(breaker),
+        second: Some(breaker),
+        ..learned
     })
 }
 
 // A node that is down has lost its record, the clock too.
+#[tactic(auto, unfolding(crate::specs::Events::went_down))]
 pub fn down() -> Node
     ensures { result ≡ went_down }
 {
@@ -350,14 +303,15 @@ pub fn down() -> Node
 }
 
 // A node that begins to start up knows nothing, and has no clock yet.
+#[tactic(auto, unfolding(crate::specs::Events::went_up))]
 pub fn up() -> Node
     ensures { result ≡ went_up }
 {
     let learned = Learned {
-        r: Known::No,
-        b: Known::No,
-        second: Known::No,
-        number: Last::Unknown,
+        r: None,
+        b: None,
+        second: None,
+        number: None,
     };
     Node {
         phase: Phase::Starting(learned),

@@ -1,12 +1,10 @@
 -- What has happened, told by the steps and their answers alone: no field of a site or of a record is looked at. Every list has the latest first. It is the
 -- same for any type S of steps, by what each of them names.
-use Rattle.std.specs.Prelude.{ℕ, suc, Bool, false, cond, List, [], ◌∷◌, eqb, length}
-use Rattle.std.proofs.Math.Option.{Option, none, some}
+use Rattle.std.specs.Prelude.{ℕ, suc, Bool, false, cond, List, [], ◌∷◌, eqb, length, Option, None, Some, Ok, Err}
 use Rattle.steps.specs.declared.Beginning.{Beginning}
 use Rattle.steps.specs.Named.{StepKind, report, Named, is_kind}
 use Rattle.site.specs.declared.Sent.{Sent}
-use Rattle.site.specs.declared.Answer.{Answer}
-use Rattle.site.specs.declared.Answer.TheVariants.{Done, Refused}
+use Rattle.site.specs.Answers.{Answer}
 
 -- a step with its answer
 pub record Entry (S : Type 0) : Type 0 where
@@ -26,22 +24,22 @@ pub record Accepted (S : Type 0) : Type 0 where
 -- ---- since the last accepted Start
 
 abbrev started_by : Answer → Option Beginning → Option Beginning → Option Beginning
-started_by (Done sent) (some b) before = some b
-started_by (Done sent) none before = before
-started_by (Refused number) b before = before
+started_by (Ok sent) (Some b) before = Some b
+started_by (Ok sent) None before = before
+started_by (Err refusal) b before = before
 
 -- what the last accepted Start gave, if there was one
 abbrev pub last_start : {S : Type 0} → (S → Named) → List (Entry S) → Option Beginning
-last_start named [] = none
+last_start named [] = None
 last_start named (e ∷ h) = started_by e.answer (named e.step).beginning (last_start named h)
 
 abbrev onward : {S : Type 0} → Option Beginning → Accepted S → List (Accepted S) → List (Accepted S)
-onward (some b) a before = []
-onward none a before = a ∷ before
+onward (Some b) a before = []
+onward None a before = a ∷ before
 
 abbrev tell_to : {S : Type 0} → (S → Named) → Answer → ℕ → S → List (Accepted S) → List (Accepted S)
-tell_to named (Done sent) number step before = onward (named step).beginning (record { number = number; step = step; sent = sent }) before
-tell_to named (Refused refusal) number step before = before
+tell_to named (Ok sent) number step before = onward (named step).beginning (record { number = number; step = step; sent = sent }) before
+tell_to named (Err refusal) number step before = before
 
 -- the accepted steps since then
 abbrev pub accepted : {S : Type 0} → (S → Named) → List (Entry S) → List (Accepted S)
@@ -51,8 +49,8 @@ accepted named (e ∷ h) = tell_to named e.answer (next_number h) e.step (accept
 -- ---- at one node
 
 abbrev is_named : ℕ → Option ℕ → Bool
-is_named j none = false
-is_named j (some i) = eqb i j
+is_named j None = false
+is_named j (Some i) = eqb i j
 
 -- the step is at node j
 abbrev pub is_at : {S : Type 0} → (S → Named) → ℕ → Accepted S → Bool
@@ -68,5 +66,5 @@ step_kind named a = (named a.step).said.kind
 
 -- "its relay's last accepted report", of the accepted steps at its node: the status
 abbrev pub last_report : {S : Type 0} → (S → Named) → List (Accepted S) → Option ℕ
-last_report named [] = none
+last_report named [] = None
 last_report named (a ∷ rest) = cond (is_kind (step_kind named a) report) (named a.step).said.status (last_report named rest)

@@ -1,6 +1,6 @@
 -- Every sequence of steps, "each given the site and table the last one left", and what is said of the steps of one.
 use Rattle.std.specs.Prelude.{List, [], ◌∷◌}
-use Rattle.site.specs.declared.Answer.{Answer}
+use Rattle.site.specs.Answers.{Answer}
 use Rattle.history.specs.History.{Entry, Accepted}
 
 -- For what a step is answered at a moment, and what it leaves: from a first moment a history leads to another, by any steps, accepted and refused, of every kind.

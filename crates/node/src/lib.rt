@@ -3,41 +3,28 @@
 
 pub mod asked;
 
-use pairs::{Known, Pair, Pairs};
+use pairs::{Pair, Pairs};
 use store::Store;
 use time::Dts;
-
-// The relay's last state number since start-up.
-#[derive(Clone, Copy)]
-pub enum Last {
-    Number(u32),
-    Unknown,
-}
 
 // What a starting node has learned so far. The second pair is the breaker's status and stamp as acknowledged or queried.
 #[derive(Clone, Copy)]
 pub struct Learned {
-    pub r: Known,
-    pub b: Known,
-    pub second: Known,
-    pub number: Last,
+    pub r: Option<Pair>,
+    pub b: Option<Pair>,
+    pub second: Option<Pair>,
+    pub number: Option<u32>,
 }
 
-// The stamp of the command that is sent again and again, if one is.
-#[derive(Clone, Copy)]
-pub enum Resend {
-    Armed(Dts),
-    Off,
-}
-
-// What a running node knows. The second pair may be missing in a record that is lent: 16 says what then.
+// What a running node knows. The second pair may be missing in a record that is lent: 16 says what then. `resend` is the stamp of the command that is sent again
+// and again, if one is.
 #[derive(Clone, Copy)]
 pub struct Record {
     pub r: Pair,
     pub b: Pair,
-    pub second: Known,
-    pub number: Last,
-    pub resend: Resend,
+    pub second: Option<Pair>,
+    pub number: Option<u32>,
+    pub resend: Option<Dts>,
 }
 
 #[derive(Clone, Copy)]
@@ -59,7 +46,7 @@ pub struct Node {
 pub struct Changed {
     pub phase: Phase,
     pub shares: Pairs,
-    pub command: Known,
+    pub command: Option<Pair>,
 }
 
 // What an event made of a node, at its end: the record afterwards, and what it sends.

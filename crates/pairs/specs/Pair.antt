@@ -1,9 +1,7 @@
 -- A status with its stamp. "Status 0 is CLOSE, 1 is TRIP."
-use Rattle.std.specs.Prelude.{ℕ, Bool, true, false, ◌&&◌, ◌||◌, List, [], ◌∷◌, eqb}
+use Rattle.std.specs.Prelude.{ℕ, Bool, true, false, ◌&&◌, ◌||◌, List, [], ◌∷◌, eqb, Option, None, Some}
 use Rattle.time.specs.declared.Dts.{Dts}
 use Rattle.pairs.specs.declared.Pair.{Pair}
-use Rattle.pairs.specs.declared.Known.{Known}
-use Rattle.pairs.specs.declared.Known.TheVariants.{Yes, No}
 use Rattle.pairs.specs.declared.Pairs.{Pairs}
 use Rattle.pairs.specs.declared.Pairs.TheVariants.{Zero, One, Two}
 
@@ -14,9 +12,9 @@ abbrev pub same : Pair → Pair → Bool
 same p q = eqb p.status q.status
 
 -- it is known
-abbrev pub is_known : Known → Bool
-is_known (Yes p) = true
-is_known No = false
+abbrev pub is_known : Option Pair → Bool
+is_known (Some p) = true
+is_known None = false
 
 -- as lists
 abbrev pub listed : Pairs → List Pair
@@ -24,9 +22,9 @@ listed Zero = []
 listed (One p) = p ∷ []
 listed (Two p q) = p ∷ q ∷ []
 
-abbrev pub listed_known : Known → List Pair
-listed_known (Yes p) = p ∷ []
-listed_known No = []
+abbrev pub listed_known : Option Pair → List Pair
+listed_known (Some p) = p ∷ []
+listed_known None = []
 
 -- this status with this stamp is among them
 abbrev pub has : List Pair → ℕ → Dts → Bool

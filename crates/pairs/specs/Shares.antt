@@ -1,6 +1,5 @@
 -- Shares of one sender, for the sender, the status and the stamps that a step names.
-use Rattle.std.specs.Prelude.{ℕ, cond, List, [], ◌∷◌, eqb}
-use Rattle.std.proofs.Math.Option.{Option, none, some}
+use Rattle.std.specs.Prelude.{ℕ, cond, List, [], ◌∷◌, eqb, Option, None, Some}
 use Rattle.time.specs.declared.Dts.{Dts}
 use Rattle.pairs.specs.declared.Pair.{Pair}
 use Rattle.pairs.specs.Pair.{pair}
@@ -12,6 +11,6 @@ shares_at A (T ∷ more) = pair A T ∷ shares_at A more
 
 -- those that are delivered from sender i
 abbrev pub delivered_from : ℕ → Option ℕ → Option ℕ → List Dts → List Pair
-delivered_from i (some sender) (some A) stamps = cond (eqb i sender) (shares_at A stamps) []
-delivered_from i (some sender) none stamps = []
-delivered_from i none A stamps = []
+delivered_from i (Some sender) (Some A) stamps = cond (eqb i sender) (shares_at A stamps) []
+delivered_from i (Some sender) None stamps = []
+delivered_from i None A stamps = []

@@ -1,3 +1,3 @@
--- Over all fresh stamps taken together (Pooling), and who is in such a pool (PoolLaws).
+-- Over all fresh stamps taken together (Pooling). Who is in such a pool: proofs/laws/PoolLaws.
 pub mod Pooling
 pub mod laws

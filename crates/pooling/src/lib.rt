@@ -6,7 +6,7 @@ ghost use Rattle.store.specs.Earliest.{fresh_stamp};
 ghost use Rattle.pooling.specs.Pooling.{added, pooled};
 
 use store::Store;
-use time::{Dts, WINDOW};
+use time::Dts;
 
 // Whoever is held at one of those stamps or another, and the latest of the stamps at which somebody is: 0 where nobody is.
 #[derive(Clone, Copy)]
@@ -16,23 +16,23 @@ pub struct Pool {
 }
 
 // The pool with one more fresh stamp, the i-th from the oldest.
-fn add(pool: Pool, store: Store, action: u8, above: Dts, i: u64) -> Pool
-    requires { i < 5 }
+#[tactic(auto, unfolding(crate::specs::Pooling::added, store::specs::Earliest::qualifies))]
+fn add(pool: Pool, store: Store, action: u8, above: Dts, i: u8) -> Pool
     ensures { result ≡ added store action above pool (fresh_stamp store.clock i) }
 {
-    let ahead = store.clock.0 as u64 + i;
-    if ahead <= above.0 as u64 + WINDOW {
+    let stamp = store::fresh_stamp(store.clock, i);
+    if stamp <= above.0 as u64 {
         return pool;
     }
-    let stamp = ahead - WINDOW;
-    if 4294967295 < stamp {
+    let Ok(stamp) = u32::try_from(stamp) else {
         return pool;
-    }
-    let there = store.senders(action, Dts(stamp as u32));
+    };
+    let latest = Dts(stamp);
+    let there = store.senders(action, latest);
     if senders::is_enough(there, 0) {
         Pool {
             senders: senders::join_all(pool.senders, there),
-            latest: Dts(stamp as u32),
+            latest,
         }
     } else {
         pool
@@ -42,13 +42,12 @@ fn add(pool: Pool, store: Store, action: u8, above: Dts, i: u64) -> Pool
 pub fn gather(store: Store, action: u8, above: Dts) -> Pool
     ensures { result ≡ pooled store action above }
 {
-    let nobody = Pool {
+    let mut pool = Pool {
         senders: 0,
         latest: Dts(0),
     };
-    let first = add(nobody, store, action, above, 0);
-    let second = add(first, store, action, above, 1);
-    let third = add(second, store, action, above, 2);
-    let fourth = add(third, store, action, above, 3);
-    add(fourth, store, action, above, 4)
+    for i in 0..5 {
+        pool = add(pool, store, action, above, i);
+    }
+    pool
 }

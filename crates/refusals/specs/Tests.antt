@@ -1,14 +1,26 @@
--- The tests of a step are a list in document 01's order, each with the number that 01 gives where it fails.
--- The refusal is the number of the first that fails, and 0, done, where none does.
-use Rattle.std.specs.Prelude.{ℕ, Bool, true, ◌&&◌, cond, List, [], ◌∷◌, eqb, ltb}
+-- The tests of a step are a list in document 01's order, each with the refusal that 01 gives where it fails.
+-- The refusal is that of the first that fails, and there is none, done, where none does.
+use Rattle.std.specs.Prelude.{ℕ, Bool, true, ◌&&◌, cond, List, [], ◌∷◌, eqb, Result, Ok, Err}
+use Rattle.refusals.specs.declared.Refusal.{Refusal}
+use Rattle.refusals.specs.Numbers.{number}
 
--- a number, and whether the test beside it is passed
+-- a refusal, and whether the test beside it is passed
 abbrev pub Test : Type 0
-Test = ℕ × Bool
+Test = Refusal × Bool
 
-unfoldable pub refusal : List Test → ℕ
-refusal [] = 0
-refusal (t ∷ ts) = cond t.1 (refusal ts) t.0
+unfoldable pub refusal : List Test → Result (Unit {0}) Refusal
+refusal [] = Ok tt
+refusal (t ∷ ts) = cond t.1 (refusal ts) (Err t.0)
+
+-- 01's number of an answer: 0, done, where it is not a refusal
+abbrev pub number_in : {A : Type 0} → Result A Refusal → ℕ
+number_in (Ok a) = 0
+number_in (Err refusal) = number refusal
+
+-- what is given where the tests are passed
+abbrev pub giving : {A : Type 0} → Result (Unit {0}) Refusal → A → Result A Refusal
+giving (Ok done) a = Ok a
+giving (Err refusal) a = Err refusal
 
 -- every test is passed
 unfoldable pub passed : List Test → Bool
@@ -16,15 +28,11 @@ passed [] = true
 passed (t ∷ ts) = t.1 && passed ts
 
 -- the refusal of some tests, with others after them
-unfoldable pub or_later : ℕ → ℕ → ℕ
-or_later earlier later = cond (eqb earlier 0) later earlier
-
--- no test has the number 0, which means done
-abbrev pub numbered : List Test → Bool
-numbered [] = true
-numbered (t ∷ ts) = ltb 0 t.0 && numbered ts
+unfoldable pub or_later : Result (Unit {0}) Refusal → Result (Unit {0}) Refusal → Result (Unit {0}) Refusal
+or_later (Ok done) later = later
+or_later (Err refusal) later = Err refusal
 
 -- the test with a number, the first that has it
 abbrev pub test_at : ℕ → List Test → Bool
 test_at k [] = true
-test_at k (t ∷ ts) = cond (eqb t.0 k) t.1 (test_at k ts)
+test_at k (t ∷ ts) = cond (eqb (number t.0) k) t.1 (test_at k ts)

@@ -1,7 +1,7 @@
 -- Document 01's table of refusals. One list of rows in the order in which they are checked, "16, then 1 for Start, then 2 to 15", each with the test
 -- that has to be passed; a row that does not speak of a step is passed by it. The first test that fails gives the refusal.
-use Rattle.std.specs.Prelude.{ℕ, ◌+◌, Bool, true, not, ◌&&◌, ◌||◌, List, [], ◌∷◌, eqb, leb, ltb}
-use Rattle.std.proofs.Math.Option.{Option, some, none}
+use Rattle.std.specs.Prelude.{ℕ, ◌+◌, Bool, true, not, ◌&&◌, ◌||◌, List, [], ◌∷◌, eqb, leb, ltb, Option, None, Some}
+use Rattle.refusals.specs.declared.Refusal.TheVariants.{BadStart, BadNumber, Compromised, WrongPhase, NotNow, ClockBack, NotFresh, NotVouchedFor, NotNew, NotAbove, NotArmed, NotRemembered, TooManyDown, LastClock, Unsound}
 use Rattle.refusals.specs.Tests.{Test}
 use Rattle.time.specs.declared.Dts.{Dts}
 use Rattle.time.specs.Fresh.{fresh}
@@ -49,18 +49,18 @@ phase_takes Down kind = among kind (up ∷ [])
 phase_takes (Starting learned) kind = among kind (report ∷ ack ∷ query ∷ down ∷ [])
 phase_takes (Running rec) kind = among kind (report ∷ deliver ∷ deliver_pair ∷ share_timeout ∷ resend_timeout ∷ ack ∷ down ∷ [])
 
--- a node's last accepted clock, 0 where it has none yet
+-- a node's last accepted clock, 0 where it has None yet
 abbrev pub node_clock : Node → Dts
 node_clock node = node.store.clock
 
 -- the last accepted clock of the acting node, or of the breaker where no node acts
 abbrev pub last_clock : Site → Node → Option ℕ → Dts
-last_clock site node (some i) = node_clock node
-last_clock site node none = site.breaker.clock
+last_clock site node (Some i) = node_clock node
+last_clock site node None = site.breaker.clock
 
 abbrev pub unless_start : Option Beginning → Bool → Bool
-unless_start (some b) test = true
-unless_start none test = test
+unless_start (Some b) test = true
+unless_start None test = test
 
 -- ---- the rows
 
@@ -130,25 +130,25 @@ may_tick site kind = not (is_kind kind tick) || not (eqb (g site).0 last_g)
 -- another)", 5 "t is neither g nor g+1", 6 "t is below that node's, or the breaker's, last accepted clock since it started", 9 "report not new".
 abbrev pub rows_for : Site → ℕ → Node → Named → List Test
 rows_for site lent node the =
-    (1, of_named the.beginning (can_begin lent))
-    ∷ (2, of_named the.actor (is_node site) && are_in_range site the.said)
-    ∷ (3, of_named the.actor λ i. not (is_in site.compromised i))
-    ∷ (4, of_named the.actor λ i. phase_takes node.phase the.said.kind)
-    ∷ (5, of_named the.clock (is_now site))
-    ∷ (6, of_named the.clock λ t. leb (last_clock site node the.actor).0 t.0)
-    ∷ (7, are_fresh the.clock the.said)
-    ∷ (8, are_vouched_for site the.clock the.said)
-    ∷ (9, of_named the.said.number (is_new node))
-    ∷ (11, are_above site the.said)
-    ∷ (12, is_timeout_armed node the.said.kind)
-    ∷ (13, are_remembered site the.said)
-    ∷ (14, may_go_down site the.said.kind)
-    ∷ (15, may_tick site the.said.kind)
+    (BadStart, of_named the.beginning (can_begin lent))
+    ∷ (BadNumber, of_named the.actor (is_node site) && are_in_range site the.said)
+    ∷ (Compromised, of_named the.actor λ i. not (is_in site.compromised i))
+    ∷ (WrongPhase, of_named the.actor λ i. phase_takes node.phase the.said.kind)
+    ∷ (NotNow, of_named the.clock (is_now site))
+    ∷ (ClockBack, of_named the.clock λ t. leb (last_clock site node the.actor).0 t.0)
+    ∷ (NotFresh, are_fresh the.clock the.said)
+    ∷ (NotVouchedFor, are_vouched_for site the.clock the.said)
+    ∷ (NotNew, of_named the.said.number (is_new node))
+    ∷ (NotAbove, are_above site the.said)
+    ∷ (NotArmed, is_timeout_armed node the.said.kind)
+    ∷ (NotRemembered, are_remembered site the.said)
+    ∷ (TooManyDown, may_go_down site the.said.kind)
+    ∷ (LastClock, may_tick site the.said.kind)
     ∷ []
 
 -- .. and 16 in front of them
 abbrev pub table_for : Site → ℕ → Node → Named → List Test
-table_for site lent node the = (16, are_sound site lent node the) ∷ rows_for site lent node the
+table_for site lent node the = (Unsound, are_sound site lent node the) ∷ rows_for site lent node the
 
 -- the tests of a step, for a site, a number of lent records and the record of the acting node
 unfoldable pub tests_of : Site → ℕ → Node → Step → List Test

@@ -1,6 +1,6 @@
-// The refusal of a step of each shape: the number of the first test that fails, and 0 where none does. The verdict of 16 is given: `is_sound_at` works it
+// The refusal of a step of each shape: that of the first test that fails, if one does. The verdict of 16 is given: `is_sound_at` works it
 // out, and `site::sound::is_site_sound` where no node acts.
-#![tactic(auto)]
+#![tactic(auto, using(std::proofs::lemmas::Result::err_from_is_err_and), unfolding(refusals::specs::Tests::refusal))]
 
 ghost use Rattle.std.specs.Prelude.{◌≡◌, ◌&&◌, [], ◌∷◌};
 ghost use Rattle.refusals.specs.Tests.{refusal};
@@ -10,7 +10,7 @@ ghost use Rattle.refusing.specs.laws.Parts.{who_tests, when_tests, share_tests, 
 
 use node::Node;
 use node::asked::{is_armed, is_down, is_in_attempt, is_new, is_running, is_starting};
-use refusals::{first, test};
+use refusals::{Refusal, test};
 use site::sound::{is_actor_sound, is_site_sound, nodes};
 use site::{FIRST_G, LAST_G, LAST_START_G, MOST_F, MOST_K, Site};
 use steps::{Act, Beginning, Event, Step, Turn};
@@ -21,7 +21,7 @@ use time::Dts;
 struct Asked {
     fields: bool,
     phase: bool,
-    own: u8,
+    own: Result<(), Refusal>,
 }
 
 // The last stamp that 32 bits hold.
@@ -70,50 +70,49 @@ pub fn is_sound_at(site: Site, lent: usize, node: Node, i: u8) -> bool
 }
 
 // Tests 2, 3 and 4 of a step at a node.
-fn who(site: Site, i: u8, fields: bool, phase: bool) -> u8
+fn who(site: Site, i: u8, fields: bool, phase: bool) -> Result<(), Refusal>
     ensures { result ≡ refusal (who_tests site i fields phase) }
 {
     let known = is_node(site, i);
+    test(Refusal::BadNumber, known & fields)?;
     let compromised = senders::is_in(site.compromised, i);
-    let a = test(2, known & fields);
-    let b = test(3, !compromised);
-    let c = test(4, phase);
-    first(a, first(b, c))
+    test(Refusal::Compromised, !compromised)?;
+    test(Refusal::WrongPhase, phase)
 }
 
 // Tests 5 and 6 of a step at a node.
-fn when(site: Site, node: Node, t: Dts) -> u8
+fn when(site: Site, node: Node, t: Dts) -> Result<(), Refusal>
     ensures { result ≡ refusal (when_tests site node t) }
 {
-    let now = is_now(site, t);
-    let a = test(5, now);
-    let b = test(6, node.store.clock.0 <= t.0);
-    first(a, b)
+    let current = is_now(site, t);
+    test(Refusal::NotNow, current)?;
+    test(Refusal::ClockBack, node.store.clock.0 <= t.0)
 }
 
 // Tests 7 and 8 of a share that is delivered.
-pub fn share(site: Site, t: Dts, sender: u8, status: u8, stamp: Dts) -> u8
+pub fn share(site: Site, t: Dts, sender: u8, status: u8, stamp: Dts) -> Result<(), Refusal>
     ensures { result ≡ refusal (share_tests site t sender status stamp) }
 {
     let fresh = time::is_fresh(stamp, t);
+    test(Refusal::NotFresh, fresh)?;
     let made = can_deliver(site, sender, status, stamp);
-    let a = test(7, fresh);
-    let b = test(8, made);
-    first(a, b)
+    test(Refusal::NotVouchedFor, made)
 }
 
 // Tests 7 and 8 of a pair: one of the two is fresh, and each that is fresh was made.
-fn pair(site: Site, t: Dts, sender: u8, status: u8, stamp: Dts) -> u8
+fn pair(site: Site, t: Dts, sender: u8, status: u8, stamp: Dts) -> Result<(), Refusal>
     ensures { result ≡ refusal (pair_tests site t sender status stamp) }
 {
     let second = time::next(stamp);
     let a_fresh = time::is_fresh(stamp, t);
     let b_fresh = time::is_fresh(second, t);
+    test(Refusal::NotFresh, a_fresh | b_fresh)?;
     let a_made = can_deliver(site, sender, status, stamp);
     let b_made = can_deliver(site, sender, status, second);
-    let a = test(7, a_fresh | b_fresh);
-    let b = test(8, (!a_fresh | a_made) & (!b_fresh | b_made));
-    first(a, b)
+    test(
+        Refusal::NotVouchedFor,
+        (!a_fresh | a_made) & (!b_fresh | b_made),
+    )
 }
 
 // What is asked of one event alone.
@@ -124,7 +123,7 @@ fn ask(site: Site, node: Node, t: Dts, event: Event) -> Asked
         Event::Report { status, number } => {
             let down = is_down(node);
             let new = is_new(node, number);
-            let own = test(9, new);
+            let own = test(Refusal::NotNew, new);
             Asked {
                 fields: status <= 1,
                 phase: !down,
@@ -162,7 +161,7 @@ fn ask(site: Site, node: Node, t: Dts, event: Event) -> Asked
         Event::ShareTimeout => {
             let phase = is_running(node);
             let attempts = is_in_attempt(node);
-            let own = test(12, attempts);
+            let own = test(Refusal::NotArmed, attempts);
             Asked {
                 fields: true,
                 phase,
@@ -172,7 +171,7 @@ fn ask(site: Site, node: Node, t: Dts, event: Event) -> Asked
         Event::ResendTimeout => {
             let phase = is_running(node);
             let armed = is_armed(node);
-            let own = test(12, armed);
+            let own = test(Refusal::NotArmed, armed);
             Asked {
                 fields: true,
                 phase,
@@ -181,7 +180,10 @@ fn ask(site: Site, node: Node, t: Dts, event: Event) -> Asked
         }
         Event::Ack { back } => {
             let down = is_down(node);
-            let own = test(13, back as u32 + 1 <= site.breaker.changes.count as u32);
+            let own = test(
+                Refusal::NotRemembered,
+                back as u32 + 1 <= site.breaker.changes.count as u32,
+            );
             Asked {
                 fields: back <= 7,
                 phase: !down,
@@ -193,83 +195,88 @@ fn ask(site: Site, node: Node, t: Dts, event: Event) -> Asked
             Asked {
                 fields: true,
                 phase,
-                own: 0,
+                own: Ok(()),
             }
         }
     }
 }
 
-pub fn refuse_event(sound: bool, site: Site, node: Node, i: u8, t: Dts, event: Event) -> u8
+pub fn refuse_event(
+    sound: bool,
+    site: Site,
+    node: Node,
+    i: u8,
+    t: Dts,
+    event: Event,
+) -> Result<(), Refusal>
     ensures { result ≡ refusal (given_tests sound site node (Step.AtNode i t event)) }
 {
     let asked = ask(site, node, t, event);
-    let a = test(16, sound);
-    let b = who(site, i, asked.fields, asked.phase);
-    let c = when(site, node, t);
-    first(a, first(b, first(c, asked.own)))
+    test(Refusal::Unsound, sound)?;
+    who(site, i, asked.fields, asked.phase)?;
+    when(site, node, t)?;
+    asked.own
 }
 
-pub fn refuse_turn(sound: bool, site: Site, node: Node, i: u8, turn: Turn) -> u8
+pub fn refuse_turn(sound: bool, site: Site, node: Node, i: u8, turn: Turn) -> Result<(), Refusal>
     ensures { result ≡ refusal (given_tests sound site node (Step.Life i turn)) }
 {
+    test(Refusal::Unsound, sound)?;
     let down = is_down(node);
-    let a = test(16, sound);
     match turn {
         Turn::Down => {
-            let b = who(site, i, true, !down);
-            let c = test(14, senders::how_many(site.down) < site.k as u32);
-            first(a, first(b, c))
+            who(site, i, true, !down)?;
+            test(
+                Refusal::TooManyDown,
+                senders::how_many(site.down) < site.k as u32,
+            )
         }
-        Turn::Up => {
-            let b = who(site, i, true, down);
-            first(a, b)
-        }
+        Turn::Up => who(site, i, true, down),
     }
 }
 
 // Tests 2, 5 and 6 of a command.
-fn command_first(site: Site, t: Dts, status: u8) -> u8
+fn command_first(site: Site, t: Dts, status: u8) -> Result<(), Refusal>
     ensures { result ≡ refusal (command_first site t status) }
 {
+    test(Refusal::BadNumber, status <= 1)?;
     let now = is_now(site, t);
-    let a = test(2, status <= 1);
-    let b = test(5, now);
-    let c = test(6, site.breaker.clock.0 <= t.0);
-    first(a, first(b, c))
+    test(Refusal::NotNow, now)?;
+    test(Refusal::ClockBack, site.breaker.clock.0 <= t.0)
 }
 
 // Tests 7, 8 and 11 of a command.
-fn command_last(site: Site, t: Dts, status: u8, stamp: Dts) -> u8
+fn command_last(site: Site, t: Dts, status: u8, stamp: Dts) -> Result<(), Refusal>
     ensures { result ≡ refusal (command_last site t status stamp) }
 {
     let fresh = time::is_fresh(stamp, t);
+    test(Refusal::NotFresh, fresh)?;
     let yes = is_verdict_yes(site, status, stamp);
-    let a = test(7, fresh);
-    let b = test(8, yes);
+    test(Refusal::NotVouchedFor, yes)?;
     let repeats = status == site.breaker.pair.status;
-    let c = test(11, repeats | (site.breaker.pair.stamp.0 < stamp.0));
-    first(a, first(b, c))
+    test(
+        Refusal::NotAbove,
+        repeats | (site.breaker.pair.stamp.0 < stamp.0),
+    )
 }
 
-pub fn refuse_act(sound: bool, site: Site, t: Dts, act: Act) -> u8
-    ensures { result ≡ refusal ((16, sound) ∷ act_tests site t act) }
+pub fn refuse_act(sound: bool, site: Site, t: Dts, act: Act) -> Result<(), Refusal>
+    ensures { result ≡ refusal ((Refusal.Unsound, sound) ∷ act_tests site t act) }
 {
-    let a = test(16, sound);
-    let b = command_first(site, t, act.status);
-    let c = command_last(site, t, act.status, act.stamp);
-    first(a, first(b, c))
+    test(Refusal::Unsound, sound)?;
+    command_first(site, t, act.status)?;
+    command_last(site, t, act.status, act.stamp)
 }
 
-pub fn refuse_tick(sound: bool, site: Site) -> u8
-    ensures { result ≡ refusal ((16, sound) ∷ tick_tests site) }
+pub fn refuse_tick(sound: bool, site: Site) -> Result<(), Refusal>
+    ensures { result ≡ refusal ((Refusal.Unsound, sound) ∷ tick_tests site) }
 {
-    let a = test(16, sound);
-    let b = test(15, site.made.clock.0 != LAST_G);
-    first(a, b)
+    test(Refusal::Unsound, sound)?;
+    test(Refusal::LastClock, site.made.clock.0 != LAST_G)
 }
 
-pub fn refuse_start(lent: usize, beginning: Beginning) -> u8
-    ensures { result ≡ refusal ((1, can_begin lent beginning) ∷ []) }
+pub fn refuse_start(lent: usize, beginning: Beginning) -> Result<(), Refusal>
+    ensures { result ≡ refusal ((Refusal.BadStart, can_begin lent beginning) ∷ []) }
 {
     let f = beginning.f;
     let k = beginning.k;
@@ -280,5 +287,8 @@ pub fn refuse_start(lent: usize, beginning: Beginning) -> u8
     let numbers = (f <= MOST_F) & (k <= MOST_K) & (beginning.status <= 1) & clock;
     let below = senders::is_within(compromised, n);
     let few = senders::how_many(compromised) <= f as u32;
-    test(1, numbers & below & few & (n as usize <= lent))
+    test(
+        Refusal::BadStart,
+        numbers & below & few & (n as usize <= lent),
+    )
 }

@@ -19,7 +19,7 @@ use Rattle.site.specs.Site.{site_sound, sets_sound, actor_sound}
 use Rattle.effects.specs.Effects.{started_site, first_record, ticked, act, commanded, turned, effect_of}
 use Rattle.refusing.specs.Tests.{tests_of}
 use Rattle.stepping.specs.Steps.{stepped}
-use Rattle.loans.specs.Loans.{made_first}
+use Rattle.loans.specs.Loans.{made_by}
 use Rattle.lent.specs.Lent.{out_of, table_after}
 use Rattle.steps.specs.declared.Step.{Step}
 use Rattle.records.specs.Numbers.{number_at}
@@ -58,7 +58,7 @@ computed : Computes listing listed output
     × Computes cut cut_steps cut_output
     × Computes (paired 2) (before_pair ++ from_pair) paired_output
     × Computes (paired 1) before_pair unpaired_output
-unfolding first_run applied step_line over_after malformed_line next_turn next_in advanced ran_of taken taken_in opened_as read_at number_at is_version kind_in field_values out_of table_after stepped tests_of effect_of refusal passed started_site first_record made_first table empty started act finished combined put_all acted changed_by stored reported report_running report_starting report_shares kept queried share_timed_out resend_timed_out acked ack_starting ack_running ack_resend went_down went_up begun ticked turned moved_to turn left_at put place_of held senders_of has_place store_within earliest qualifies next site_sound sets_sound actor_sound node_in_range node_sound breaker_sound changes_sound after_command answered changed change_at remembered commanded newer ahead size count_below is_in joined within together state line_of tail_text after_commas decimal spelled places_in
+unfolding first_run applied step_line over_after malformed_line next_turn next_in advanced ran_of taken taken_in opened_as read_at number_at is_version kind_in field_values out_of table_after stepped tests_of effect_of refusal passed started_site first_record made_by table empty started act finished combined put_all acted changed_by stored reported report_running report_starting report_shares kept queried share_timed_out resend_timed_out acked ack_starting ack_running ack_resend went_down went_up begun ticked turned moved_to turn left_at put place_of held senders_of has_place store_within earliest qualifies next site_sound sets_sound actor_sound node_in_range node_sound breaker_sound changes_sound after_command answered changed change_at remembered commanded newer ahead size count_below is_in joined within together state line_of tail_text after_commas decimal spelled places_in
 computed = ((refl, refl, refl), (refl, refl, refl), (refl, refl, refl), (refl, refl, refl), (refl, refl, refl))
 
 pub listing-prints : Whole listing listed output

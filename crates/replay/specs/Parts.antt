@@ -1,8 +1,7 @@
 -- A sequence with two changes, so that no part of the demand is met for nothing: what has happened in it, what the history tells of node 0, and each of the four
 -- parts of the demand, computed.
-use Rattle.std.specs.Prelude.{ℕ, ◌<◌, ◌≡◌, refl, true, List, [], ◌∷◌}
+use Rattle.std.specs.Prelude.{ℕ, ◌<◌, ◌≡◌, refl, true, List, [], ◌∷◌, Some, Option, None}
 use Rattle.std.proofs.Common.{subst, inl, inr, arith, lit<}
-use Rattle.std.proofs.Math.Option.{some}
 use Rattle.refusals.specs.Tests.{refusal, passed}
 use Rattle.tables.specs.Tables.{table}
 use Rattle.time.specs.declared.Dts.{Dts}
@@ -14,12 +13,8 @@ use Rattle.store.specs.Store.{empty, put, moved_to, turn, left_at, has_place, se
 use Rattle.store.specs.Held.{held}
 use Rattle.store.specs.Earliest.{earliest, qualifies}
 use Rattle.pairs.specs.declared.Pair.{Pair}
-use Rattle.pairs.specs.declared.Known.{Known}
-use Rattle.pairs.specs.declared.Known.TheVariants.{Yes, No}
 use Rattle.pairs.specs.declared.Pairs.TheVariants.{Zero, One, Two}
 use Rattle.pairs.specs.Pair.{pair, listed}
-use Rattle.node.specs.declared.Last.TheVariants.{Number}
-use Rattle.node.specs.declared.Resend.TheVariants.{Armed, Off}
 use Rattle.node.specs.Asked.{node_in_range, node_sound}
 use Rattle.combining.specs.Combining.{combined, put_all, finished}
 use Rattle.events.specs.Events.{begun, reported, report_running, report_starting, report_shares, kept, queried, went_down, went_up}
@@ -76,10 +71,10 @@ history = told (moment_of first_run) steps []
 -- ---- what has happened: the accepted steps since the Start, the latest first
 
 abbrev shares : Pair → Pair → Sent
-shares p q = record { shares = Two p q; commands = Zero; ack = No }
+shares p q = record { shares = Two p q; commands = Zero; ack = None }
 
 abbrev sends : Pair → Sent
-sends p = record { shares = Zero; commands = One p; ack = No }
+sends p = record { shares = Zero; commands = One p; ack = None }
 
 abbrev pub before_trip : List Accepted
 before_trip =
@@ -103,21 +98,21 @@ delivery = done_with 10 (AtNode 0 (stamp 102) (Deliver 2 0 (stamp 102))) (sends 
 abbrev pub happened : List Accepted
 happened = done_with 11 (command 102 0 102) (only_ack (pair 0 (stamp 102))) ∷ delivery ∷ before_delivery
 
-pub has-happened : (last_start history ≡ some start) × (accepted history ≡ happened)
+pub has-happened : (last_start history ≡ Some start) × (accepted history ≡ happened)
 unfolding first_run out_of table_after stepped tests_of effect_of refusal passed started_site first_record table empty started act ticked finished combined put_all acted changed_by stored reported report_running report_starting report_shares kept queried went_down went_up begun moved_to turn left_at put held senders_of has_place store_within earliest qualifies next site_sound sets_sound actor_sound node_in_range node_sound breaker_sound changes_sound after_command answered changed remembered commanded newer ahead size count_below is_in joined within together
 has-happened = (refl, refl)
 
 -- ---- the four parts
 
-abbrev stamp_in : Known → ℕ
-stamp_in (Yes p) = p.stamp.0
-stamp_in No = 0
+abbrev stamp_in : Option Pair → ℕ
+stamp_in (Some p) = p.stamp.0
+stamp_in None = 0
 
 abbrev trip : Change
-trip = record { number = 6; clock = stamp 100; action = 1; stamp = stamp 101; acked = Yes (pair 1 (stamp 101)); before = before_trip }
+trip = record { number = 6; clock = stamp 100; action = 1; stamp = stamp 101; acked = Some (pair 1 (stamp 101)); before = before_trip }
 
 abbrev close : Change
-close = record { number = 11; clock = stamp 102; action = 0; stamp = stamp 102; acked = Yes (pair 0 (stamp 102)); before = delivery ∷ before_delivery }
+close = record { number = 11; clock = stamp 102; action = 0; stamp = stamp 102; acked = Some (pair 0 (stamp 102)); before = delivery ∷ before_delivery }
 
 pub two-changes : changes_in 0 happened ≡ close ∷ trip ∷ []
 two-changes = refl
@@ -132,7 +127,7 @@ shared-before = (
 
 -- 2. Their stamps rise.
 pub stamps-rise : Rising (close ∷ trip ∷ [])
-stamps-rise = (((lit< tt, λ p is. subst (λ (k : Known). stamp_in k < 102) is (lit< tt)), tt), (tt, tt))
+stamps-rise = (((lit< tt, λ p is. subst (λ (k : Option Pair). stamp_in k < 102) is (lit< tt)), tt), (tt, tt))
 
 -- 3. Node 0 runs, and holds what was delivered to it, by itself and by node 2, at its clock 102; node 1 delivered nothing.
 pub deliveries-so : (runs (at_node 0 happened) ≡ true)
@@ -153,16 +148,16 @@ sent-at-once =
 -- What the history tells, at the end: of node 0, of the site clock and of the breaker.
 abbrev pub knows_then : Knows
 knows_then =
-    record { r = Yes (pair 0 (stamp 102)); b = Yes (pair 0 (stamp 102)); second = Yes (pair 0 (stamp 100)); number = Number 3; resend = Armed (stamp 102) }
+    record { r = Some (pair 0 (stamp 102)); b = Some (pair 0 (stamp 102)); second = Some (pair 0 (stamp 100)); number = Some 3; resend = Some (stamp 102) }
 
 pub told-so : (told_to start 0 happened ≡ knows_then) × (site_clock start happened ≡ 102) × (breaker_pair start happened ≡ pair 0 (stamp 102))
 told-so = (refl, refl, refl)
 
--- No ack came to it. A resend timeout at clock 104 sends the command again; at clock 105 the stamp is no longer fresh, and b returns to what the query said.
+-- None ack came to it. A resend timeout at clock 104 sends the command again; at clock 105 the stamp is no longer fresh, and b returns to what the query said.
 abbrev timed_out : ℕ → Sent → List Accepted
 timed_out t sent = done_with 15 (AtNode 0 (stamp t) ResendTimeout) sent ∷ happened
 
 pub given-up : (told_to start 0 (timed_out 104 (sends (pair 0 (stamp 102)))) ≡ knows_then)
     × (told_to start 0 (timed_out 105 silence)
-    ≡ record { r = Yes (pair 0 (stamp 102)); b = Yes (pair 0 (stamp 100)); second = Yes (pair 0 (stamp 100)); number = Number 3; resend = Off })
+    ≡ record { r = Some (pair 0 (stamp 102)); b = Some (pair 0 (stamp 100)); second = Some (pair 0 (stamp 100)); number = Some 3; resend = None })
 given-up = (refl, refl)

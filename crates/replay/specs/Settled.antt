@@ -1,15 +1,15 @@
 -- "any two outcomes that satisfy it are shown equal", for the promises that speak of more than a result: what comes back together with everything that was lent, as
 -- it is afterwards. (A promise `out ≡ definition ..` settles its result by `settled`, crates/refusals/specs/laws/Settled.antt.)
-use Rattle.std.specs.Prelude.{ℕ, ◌≡◌, Bool, List, get_or, set}
+use Rattle.std.specs.Prelude.{ℕ, ◌≡◌, Bool, List, get_or, set, Result}
+use Rattle.refusals.specs.declared.Refusal.{Refusal}
 use Rattle.refusals.specs.laws.Settled.{settled, Settles}
 use Rattle.node.specs.declared.Node.{Node}
 use Rattle.events.specs.Events.{went_down}
 use Rattle.steps.specs.declared.Step.{Step}
 use Rattle.site.specs.declared.Site.{Site}
-use Rattle.site.specs.declared.Answer.{Answer}
+use Rattle.site.specs.Answers.{Answer}
 use Rattle.loans.specs.Loans.{made_first}
 use Rattle.lent.specs.Lent.{Said, SaidWithin}
-use Rattle.writer.specs.declared.Written.{Written}
 use Rattle.writer.specs.Writing.{written, bytes_after}
 use Rattle.text.specs.Lines.{line_bytes, line_next}
 use Rattle.turns.specs.declared.Run.{Run}
@@ -38,7 +38,7 @@ within-settled site records count step x y p q = λ k. (settled p.0 q.0 k, (sett
 
 -- ---- bytes: `writer::write`, `text::line::put_quiet` and `put_loud`, each with its text, `run::run_block`
 
-pub written-settled : (version : ℕ) (step : Step) (log : List ℕ) (at : ℕ) → Settles λ (o : Written × List ℕ). (o.0 ≡ written version step log at) × (o.1 ≡ bytes_after version step log at)
+pub written-settled : (version : ℕ) (step : Step) (log : List ℕ) (at : ℕ) → Settles λ (o : Result ℕ Refusal × List ℕ). (o.0 ≡ written version step log at) × (o.1 ≡ bytes_after version step log at)
 written-settled version step log at x y p q = λ k. (settled p.0 q.0 k, settled p.1 q.1 k)
 
 pub line-settled : (out : List ℕ) (at : ℕ) (text : List ℕ) → Settles λ (o : List ℕ × ℕ). (o.0 ≡ line_bytes out at text) × (o.1 ≡ line_next out at text)

@@ -1,15 +1,18 @@
 -- Rows 1 and 15 of a discretising: when each is given, and which stamp comes with it. Of either rounding.
-use Rattle.std.specs.Prelude.{ℕ, ◌/◌, ◌<◌, ◌≡◌, Bool, ◌↔◌, ◌⊎◌, List, [], ◌∷◌, eqb, leb}
+use Rattle.std.specs.Prelude.{ℕ, ◌/◌, ◌<◌, ◌≡◌, Bool, ◌↔◌, ◌⊎◌, List, [], ◌∷◌, eqb, leb, Result, Ok, Err}
 use Rattle.std.proofs.Math.Path.{refl, ap}
 use Rattle.std.proofs.Common.{sym, subst, ◌∙◌, inl, inr, arith, add-zero, lit<, eqb-true}
 use Rattle.std.proofs.Math.Bool.{true, false, cond}
 use Rattle.std.proofs.lemmas.Bool.{eqb-false}
-use Rattle.refusals.specs.Tests.{passed}
-use Rattle.refusals.specs.laws.Tests.{passed-done, done-passed}
+use Rattle.refusals.specs.declared.Refusal.{Refusal}
+use Rattle.refusals.specs.declared.Refusal.TheVariants.{BadStart, LastClock}
+use Rattle.refusals.specs.Tests.{number_in, refusal, giving}
+use Rattle.time.specs.declared.Dts.{Dts}
+use Rattle.time.specs.laws.Neighbours.{accepted-stamp}
 use Rattle.time.specs.declared.Micros.{Micros}
 use Rattle.time.specs.declared.Rounding.{Rounding}
 use Rattle.time.specs.declared.Rounding.TheVariants.{Down, Nearest}
-use Rattle.time.specs.Discretising.{shortest_interval, longest_interval, last_stamp, whole_part, discretising_tests, discretised_by}
+use Rattle.time.specs.Discretising.{shortest_interval, longest_interval, last_stamp, whole_part, discretising_tests, discretised_by, in_numbers}
 use Rattle.rows.specs.Exactly.{Row, Condition, NoneBefore, Tell, no_rows, also}
 use Rattle.rows.specs.laws.Exactly.{exactly, exactly-done}
 use Rattle.rows.specs.laws.Telling.{above, ◌or◌, spelled}
@@ -36,12 +39,23 @@ module _ (rounding : Rounding) (reading interval : Micros) where
 
   rows_tell : Tell (discretising_tests rounding reading interval) table
   rows_tell =
-      also 1 (above shortest_interval interval.0 or above interval.0 longest_interval)
-      (also 15 (spelled (ap (λ (s : ℕ). leb s last_stamp) (same-stamp rounding reading interval)) (above (stamp_by rounding reading interval) last_stamp)) no_rows)
+      also BadStart (above shortest_interval interval.0 or above interval.0 longest_interval)
+      (also LastClock (spelled (ap (λ (s : ℕ). leb s last_stamp) (same-stamp rounding reading interval)) (above (stamp_by rounding reading interval) last_stamp)) no_rows)
+
+  -- its number is that of its tests' refusal
+  numbered-so : (in_numbers (discretised_by rounding reading interval)).refusal ≡ number_in (refusal (discretising_tests rounding reading interval))
+  unfolding discretised_by
+  numbered-so = go (refusal (discretising_tests rounding reading interval))
+    where
+      go : (answer : Result (Unit {0}) Refusal) → (in_numbers (giving answer (record { 0 = whole_part rounding reading interval }))).refusal ≡ number_in answer
+      go (Ok done) = refl
+      go (Err fault) = refl
 
   told : (k : ℕ) → 0 < k → AnsweredWith k ↔ (NoneBefore k table × Condition k table)
-  unfolding discretised_by
-  told k pos = exactly rows_tell refl k pos
+  told k pos = rw numbered-so (exactly rows_tell refl k pos)
+
+  told-done : AnsweredWith 0 ↔ ((IntervalOutOfRange → ⊥) × ((StampOutOfRange → ⊥) × Unit {0}))
+  told-done = rw numbered-so (exactly-done rows_tell refl)
 
   -- Refusal 1 is given exactly for a bad interval,
   pub interval-refused : AnsweredWith 1 ↔ IntervalOutOfRange
@@ -53,8 +67,7 @@ module _ (rounding : Rounding) (reading interval : Micros) where
 
   -- and a reading is accepted exactly where neither holds.
   pub reading-accepted : AnsweredWith 0 ↔ ((IntervalOutOfRange → ⊥) × (StampOutOfRange → ⊥))
-  unfolding discretised_by
-  reading-accepted = (λ e. let x = (exactly-done rows_tell refl).0 e in (x.0, x.1.0), λ c. (exactly-done rows_tell refl).1 (c.0, (c.1, tt)))
+  reading-accepted = (λ e. let x = told-done.0 e in (x.0, x.1.0), λ c. told-done.1 (c.0, (c.1, tt)))
 
   -- No other number is ever given.
   pub no_other : (number : ℕ) → AnsweredWith number → (number ≡ 0) ⊎ (number ≡ 1) ⊎ (number ≡ 15)
@@ -71,15 +84,12 @@ module _ (rounding : Rounding) (reading interval : Micros) where
           (subst (λ (y : Bool). cond y IntervalOutOfRange (cond (eqb 15 number) StampOutOfRange ⊥)) ey ((told number (omega (arith, not-zero))).0 e).1))
 
   -- The stamp of an accepted reading is that of its rounding, and that of a refused one is 0.
-  pub stamp-given : AnsweredWith 0 → (discretised_by rounding reading interval).stamp.0 ≡ stamp_by rounding reading interval
-  unfolding discretised_by
-  stamp-given e =
-      ap (λ (x : Bool). cond x (whole_part rounding reading interval) 0) (done-passed (discretising_tests rounding reading interval) refl e) ∙ same-stamp rounding reading interval
+  pub stamp-given : AnsweredWith 0 → (in_numbers (discretised_by rounding reading interval)).stamp.0 ≡ stamp_by rounding reading interval
+  stamp-given e = accepted-stamp rounding reading interval e ∙ same-stamp rounding reading interval
 
-  pub no-stamp : (AnsweredWith 0 → ⊥) → (discretised_by rounding reading interval).stamp.0 ≡ 0
-  unfolding discretised_by
-  no-stamp refused = go (passed (discretising_tests rounding reading interval)) refl
+  pub no-stamp : (AnsweredWith 0 → ⊥) → (in_numbers (discretised_by rounding reading interval)).stamp.0 ≡ 0
+  no-stamp = go (discretised_by rounding reading interval)
     where
-      go : (x : Bool) → passed (discretising_tests rounding reading interval) ≡ x → cond x (whole_part rounding reading interval) 0 ≡ 0
-      go true e = absurd (refused (passed-done (discretising_tests rounding reading interval) e))
-      go false e = refl
+      go : (answer : Result Dts Refusal) → ((in_numbers answer).refusal ≡ 0 → ⊥) → (in_numbers answer).stamp.0 ≡ 0
+      go (Ok stamp) refused = absurd (refused refl)
+      go (Err fault) refused = refl

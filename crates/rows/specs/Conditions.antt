@@ -1,7 +1,6 @@
 -- Document 01's table of refusals: the condition of each row, and the order in which the rows are checked.
--- `Of the.clock λ t. C` reads "the step names a clock t, and C", `OneOf` the same of one of some, `AllOf` of some and each of them. `×` is "and", `⊎` is "or", `→ ⊥` is "not".
-use Rattle.std.specs.Prelude.{ℕ, ◌+◌, ◌≤◌, ◌<◌, ◌≡◌, true, false, ◌⊎◌, List, [], ◌∷◌}
-use Rattle.std.proofs.Math.Option.{Option, some, none}
+-- `Of the.clock λ t. C` reads "the step names a clock t, and C", `OneOf` the same of one of Some, `AllOf` of Some and each of them. `×` is "and", `⊎` is "or", `→ ⊥` is "not".
+use Rattle.std.specs.Prelude.{ℕ, ◌+◌, ◌≤◌, ◌<◌, ◌≡◌, true, false, ◌⊎◌, List, [], ◌∷◌, Option, Some, None}
 use Rattle.time.specs.declared.Dts.{Dts}
 use Rattle.time.specs.Newer.{ahead}
 use Rattle.senders.specs.Masks.{is_in, size}
@@ -9,14 +8,8 @@ use Rattle.store.specs.declared.Store.{Store}
 use Rattle.store.specs.Store.{places, set_at}
 use Rattle.store.specs.Held.{held}
 use Rattle.pairs.specs.declared.Pair.{Pair}
-use Rattle.pairs.specs.declared.Known.{Known}
-use Rattle.pairs.specs.declared.Known.TheVariants.{Yes, No}
 use Rattle.steps.specs.declared.Beginning.{Beginning}
 use Rattle.steps.specs.Named.{tick, share_timeout, resend_timeout, command, down, Said, Named, Of, OneOf, AllOf, paired}
-use Rattle.node.specs.declared.Last.{Last}
-use Rattle.node.specs.declared.Last.TheVariants.{Number, Unknown}
-use Rattle.node.specs.declared.Resend.{Resend}
-use Rattle.node.specs.declared.Resend.TheVariants.{Armed, Off}
 use Rattle.node.specs.declared.Phase.{Phase}
 use Rattle.node.specs.declared.Phase.TheVariants.{Starting, Running, Down as NotUp}
 use Rattle.node.specs.declared.Node.{Node}
@@ -38,13 +31,13 @@ StampTooLate T = 1_000_000_003 < T.0
 abbrev pub ClockTooLate : Dts → Type 0
 ClockTooLate t = 1_000_000_003 < t.0
 
-abbrev pub KnownTooLate : Known → Type 0
-KnownTooLate (Yes p) = StampTooLate p.stamp
-KnownTooLate No = ⊥
+abbrev pub KnownTooLate : Option Pair → Type 0
+KnownTooLate (Some p) = StampTooLate p.stamp
+KnownTooLate None = ⊥
 
-abbrev pub ResendTooLate : Resend → Type 0
-ResendTooLate (Armed T) = StampTooLate T
-ResendTooLate Off = ⊥
+abbrev pub ResendTooLate : Option Dts → Type 0
+ResendTooLate (Some T) = StampTooLate T
+ResendTooLate None = ⊥
 
 -- a sender not below n, at one of the store's places
 abbrev pub SenderOutside : Store → ℕ → Type 0
@@ -64,43 +57,43 @@ PhaseTooLate (Starting l) = KnownTooLate l.r ⊎ KnownTooLate l.b ⊎ KnownTooLa
 PhaseTooLate (Running rec) = StampTooLate rec.r.stamp ⊎ StampTooLate rec.b.stamp ⊎ ResendTooLate rec.resend ⊎ KnownTooLate rec.second
 
 -- "16 also for a record whose second pair has a stamp above b's, and for a running record with no second pair" (§9 of 02)
-abbrev pub SecondAbove : Known → Known → Type 0
-SecondAbove (Yes second) (Yes b) = b.stamp.0 < second.stamp.0
-SecondAbove (Yes second) No = ⊥
-SecondAbove No b = ⊥
+abbrev pub SecondAbove : Option Pair → Option Pair → Type 0
+SecondAbove (Some second) (Some b) = b.stamp.0 < second.stamp.0
+SecondAbove (Some second) None = ⊥
+SecondAbove None b = ⊥
 
-abbrev pub NoSecond : Known → Type 0
-NoSecond (Yes second) = ⊥
-NoSecond No = Unit {0}
+abbrev pub NoSecond : Option Pair → Type 0
+NoSecond (Some second) = ⊥
+NoSecond None = Unit {0}
 
 abbrev pub SecondOutOfOrder : Phase → Type 0
 SecondOutOfOrder NotUp = ⊥
 SecondOutOfOrder (Starting l) = SecondAbove l.second l.b
-SecondOutOfOrder (Running rec) = NoSecond rec.second ⊎ SecondAbove rec.second (Yes rec.b)
+SecondOutOfOrder (Running rec) = NoSecond rec.second ⊎ SecondAbove rec.second (Some rec.b)
 
 -- "any step but Start"
 abbrev pub NoStart : Option Beginning → Type 0
-NoStart (some b) = ⊥
-NoStart none = Unit {0}
+NoStart (Some b) = ⊥
+NoStart None = Unit {0}
 
 -- ---- 9 and 12, of a node's phase
 
--- "a number is new when none is known since start-up, or when number minus last, wrapping at 32 bits, is 1 to 2,147,483,647"
-abbrev pub NotNewAfter : ℕ → Last → Type 0
-NotNewAfter number (Number last) = (ahead number last ≡ 0) ⊎ (2_147_483_647 < ahead number last)
-NotNewAfter number Unknown = ⊥
+-- "a number is new when None is known since start-up, or when number minus last, wrapping at 32 bits, is 1 to 2,147,483,647"
+abbrev pub NotNewAfter : ℕ → Option ℕ → Type 0
+NotNewAfter number (Some last) = (ahead number last ≡ 0) ⊎ (2_147_483_647 < ahead number last)
+NotNewAfter number None = ⊥
 
--- "Armed exactly in Attempt": the statuses differ, and r's stamp is no older than b's
+-- "Some exactly in Attempt": the statuses differ, and r's stamp is no older than b's
 abbrev pub NotInAttempt : Phase → Type 0
 NotInAttempt NotUp = Unit {0}
 NotInAttempt (Starting l) = Unit {0}
 NotInAttempt (Running rec) = (rec.r.status ≡ rec.b.status) ⊎ (rec.r.stamp.0 < rec.b.stamp.0)
 
--- "Armed after a command was sent": no stamp is being resent
+-- "Some after a command was sent": no stamp is being resent
 abbrev pub NoStampResent : Phase → Type 0
 NoStampResent NotUp = Unit {0}
 NoStampResent (Starting l) = Unit {0}
-NoStampResent (Running rec) = rec.resend ≡ Off
+NoStampResent (Running rec) = rec.resend ≡ None
 
 -- for a site, the number of records that are lent, the record of the acting node, and what a step names
 module _ (site : Site) (lent : ℕ) (node : Node) (the : Named) where

@@ -4,7 +4,7 @@ use Rattle.std.specs.Prelude.{ℕ, ◌+◌, ◌/◌, ◌<◌, ◌≡◌, ◌⊎�
 use Rattle.time.specs.declared.Micros.{Micros}
 use Rattle.time.specs.declared.Rounding.{Rounding}
 use Rattle.time.specs.declared.Rounding.TheVariants.{Down, Nearest}
-use Rattle.time.specs.Discretising.{discretised_by}
+use Rattle.time.specs.Discretising.{discretised_by, in_numbers}
 
 -- "DTS = whole part of reading ÷ interval"; to nearest, "half the interval, whole part, added before dividing" (§6 of 02)
 abbrev pub stamp_by : Rounding → Micros → Micros → ℕ
@@ -22,4 +22,4 @@ module _ (rounding : Rounding) (reading interval : Micros) where
   StampOutOfRange = 1_000_000_000 < stamp_by rounding reading interval
 
   abbrev pub AnsweredWith : ℕ → Type 0
-  AnsweredWith number = (discretised_by rounding reading interval).refusal ≡ number
+  AnsweredWith number = (in_numbers (discretised_by rounding reading interval)).refusal ≡ number

@@ -1,5 +1,7 @@
 -- Over any list of tests: the refusal is k exactly when the condition of row k is met and that of no row in front of it.
 use Rattle.std.specs.Prelude.{ℕ, ◌≡◌, Bool, true, false, not, ◌&&◌, cond, ◌↔◌, List, [], ◌∷◌, eqb, leb, ltb}
+use Rattle.refusals.specs.declared.Refusal.{Refusal}
+use Rattle.refusals.specs.Numbers.{number}
 use Rattle.refusals.specs.Tests.{Test}
 
 -- a row of a table of refusals: its number, and the condition on which it is given
@@ -25,11 +27,11 @@ None (row ∷ rows) = (row.1 → ⊥) × None rows
 abbrev pub Tells : Bool → Type 0 → Type 0
 Tells test C = (test ≡ false) ↔ C
 
--- the tests tell the conditions of the rows, one each and in the same order
+-- the tests tell the conditions of the rows, one each and in the same order: each row has the number of its test's refusal
 pub data Tell : List Test → List Row → Type 1 where
   no_rows : Tell [] []
-  also : (k : ℕ) {test : Bool} {C : Type 0} {ts : List Test} {rows : List Row} → Tells test C → Tell ts rows
-      → Tell ((k, test) ∷ ts) ((k, C) ∷ rows)
+  also : (fault : Refusal) {test : Bool} {C : Type 0} {ts : List Test} {rows : List Row} → Tells test C → Tell ts rows
+      → Tell ((fault, test) ∷ ts) ((number fault, C) ∷ rows)
 
 -- every row has a number of its own, which is not 0
 abbrev pub has_row : ℕ → List Row → Bool

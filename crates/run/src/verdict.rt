@@ -7,6 +7,7 @@ ghost use Rattle.starting.specs.laws.Judging.{kept, actor_in_range, Judging};
 
 use node::asked::{is_in_range, is_second_sound};
 use node::{Node, Phase};
+use refusals::Refusal;
 use site::Site;
 use site::sound::nodes;
 
@@ -30,12 +31,9 @@ fn with_fit(fits: u16, site: Site, node: Node, i: u8) -> u16
 pub fn judge(site: Site, nodes: [Node; 12]) -> u16
     ensures { (length nodes ≡ kept) × Judging site nodes kept result }
 {
-    let mut fits = 0u16;
-    let mut i = 0u8;
-    while i < RECORDS {
-        let node = nodes[i as usize];
-        fits = with_fit(fits, site, node, i);
-        i += 1;
+    let mut fits = 0;
+    for i in 0..RECORDS {
+        fits = with_fit(fits, site, nodes[i as usize], i);
     }
     fits
 }
@@ -53,8 +51,12 @@ pub fn is_fit(whole: bool, fits: u16, f: u8, k: u8, phase: Phase, i: u8) -> bool
 }
 
 // The refusal of a step of a node that has no record.
-pub fn outside(whole: bool) -> u8
-    ensures { result ≡ (if whole then 2 else 16) }
+pub fn outside(whole: bool) -> Refusal
+    ensures { result ≡ (if whole then Refusal.BadNumber else Refusal.Unsound) }
 {
-    if whole { 2 } else { 16 }
+    if whole {
+        Refusal::BadNumber
+    } else {
+        Refusal::Unsound
+    }
 }

@@ -1,4 +1,5 @@
-// Sets of senders. A set is a mask of 16 bits: bit i is sender i.
+// Sets of senders. A set is a mask of 16 bits: bit i is sender i. It stays a bare number, and no type of its own: a Start gives it as one (01), and what is shown of
+// sets (Masks.antt, and all that counts in crates/sequences) is said of numbers.
 #![tactic(auto)]
 
 ghost use Rattle.std.specs.Prelude.{◌≡◌};
@@ -45,14 +46,14 @@ pub fn is_enough(mask: u16, f: u8) -> bool
     if mask == 0 {
         return false;
     }
-    f as u32 + 1 <= u16::count_ones(mask)
+    f as u32 + 1 <= mask.count_ones()
 }
 
 // How many members a set has.
 pub fn how_many(mask: u16) -> u32
     ensures { result ≡ size mask }
 {
-    u16::count_ones(mask)
+    mask.count_ones()
 }
 
 // The members of either of two sets.

@@ -5,7 +5,7 @@ use Rattle.std.proofs.Common.{sym, ap, subst, ◌∙◌}
 use Rattle.node.specs.declared.Node.{Node}
 use Rattle.steps.specs.declared.Step.{Step}
 use Rattle.site.specs.declared.Site.{Site}
-use Rattle.site.specs.declared.Answer.{Answer}
+use Rattle.site.specs.Answers.{Answer}
 use Rattle.lent.specs.Lent.{out_of, Said, SaidWithin}
 use Rattle.sequences.specs.History.{Entry}
 use Rattle.sequences.specs.Moments.{Moment, Reached, then, entry}

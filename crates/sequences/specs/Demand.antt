@@ -2,19 +2,14 @@
 -- given the site and table the last one left."
 -- `Reached first h m` is such a sequence, from any site and table whatever: h tells its steps and answers, and m is the site and table that it leaves.
 -- `accepted h` are the steps accepted since the last accepted Start, `last_start h` is what that Start gave.
-use Rattle.std.specs.Prelude.{ℕ, ◌+◌, ◌≤◌, ◌<◌, ◌≡◌, true, false, ◌&&◌, List, [], ◌∷◌, ◌⊎◌}
-use Rattle.std.proofs.Math.Option.{some}
+use Rattle.std.specs.Prelude.{ℕ, ◌+◌, ◌≤◌, ◌<◌, ◌≡◌, true, false, ◌&&◌, List, [], ◌∷◌, ◌⊎◌, Some, Option, None}
 use Rattle.time.specs.declared.Dts.{Dts}
 use Rattle.time.specs.Fresh.{fresh}
 use Rattle.senders.specs.Sets.{count_below}
 use Rattle.senders.specs.Masks.{size}
 use Rattle.pairs.specs.declared.Pair.{Pair}
-use Rattle.pairs.specs.declared.Known.{Known}
-use Rattle.pairs.specs.declared.Known.TheVariants.{Yes, No}
 use Rattle.pairs.specs.Pair.{listed, has}
 use Rattle.node.specs.declared.Record.{Record}
-use Rattle.node.specs.declared.Resend.{Resend}
-use Rattle.node.specs.declared.Resend.TheVariants.{Armed, Off}
 use Rattle.node.specs.declared.Phase.TheVariants.{Running}
 use Rattle.node.specs.State.{attempts}
 use Rattle.node.specs.Asked.{is_running}
@@ -34,17 +29,17 @@ abbrev pub Correct : Beginning → List Accepted → ℕ → Type 0
 Correct b steps i = (i < nodes b.f b.k) × (is_compromised b steps i ≡ false)
 
 -- a command with this action and stamp is being resent: b's status, and the stamp being resent
-abbrev pub IsResent : Resend → Known → ℕ → Dts → Type 0
-IsResent (Armed U) (Yes p) A T = (A ≡ p.status) × (T.0 ≡ U.0)
-IsResent (Armed U) No A T = ⊥
-IsResent Off k A T = ⊥
+abbrev pub IsResent : Option Dts → Option Pair → ℕ → Dts → Type 0
+IsResent (Some U) (Some p) A T = (A ≡ p.status) × (T.0 ≡ U.0)
+IsResent (Some U) None A T = ⊥
+IsResent None k A T = ⊥
 
 -- In this step node i shared (A, T), "whose own clock then read T or T−1 and whose relay's last accepted report was that action".
 pub record Shared (i A : ℕ) (T : Dts) (a : Accepted) (before : List Accepted) : Type 0 where
   pub by-node : is_at i a ≡ true
   pub shared : has (listed a.sent.shares) A T ≡ true
   pub at-clock : Of (named a.step).clock λ t. (t.0 ≡ T.0) ⊎ (t.0 + 1 ≡ T.0)
-  pub reported : last_report (at_node i (a ∷ before)) ≡ some A
+  pub reported : last_report (at_node i (a ∷ before)) ≡ Some A
 
 -- a change was shared, earlier than it was accepted, by a correct node
 abbrev pub SharedEarlier : Beginning → Change → Type 0
@@ -52,7 +47,7 @@ SharedEarlier b c = (i : ℕ) × Correct b c.before i × Earlier (Shared i c.act
 
 -- a change's stamp T, and the stamp that the breaker acknowledged, are as P says
 abbrev pub BothStamps : (Dts → Type 0) → Change → Type 0
-BothStamps P c = P c.stamp × ((p : Pair) → c.acked ≡ Yes p → P p.stamp)
+BothStamps P c = P c.stamp × ((p : Pair) → c.acked ≡ Some p → P p.stamp)
 
 -- each change's stamp T is above those of all changes before it, the latest coming first
 abbrev pub Rising : List Change → Type 0
@@ -64,7 +59,7 @@ Rising (c ∷ before) = Each (BothStamps λ U. U.0 < c.stamp.0) before × Rising
 module _ (b : Beginning) (a : Accepted) (before : List Accepted) (j : ℕ) (t : Dts) (event : Event) where
   -- after the event the node attempts A, with p for the breaker's pair
   abbrev pub Attempts : ℕ → Pair → Type 0
-  Attempts A p = (r : Pair) × (r_then b before j t event ≡ Yes r) × (b_then b before j t event ≡ Yes p) × (attempts r p ≡ true) × (A ≡ r.status)
+  Attempts A p = (r : Pair) × (r_then b before j t event ≡ Some r) × (b_then b before j t event ≡ Some p) × (attempts r p ≡ true) × (A ≡ r.status)
 
   -- T is "a fresh stamp above its breaker stamp", and "f+1 senders are held" for A
   abbrev pub HeldEnough : ℕ → Pair → Dts → Type 0
@@ -141,12 +136,12 @@ module _ (h : List Entry) (m : Moment) (b : Beginning) where
 
 -- The demand, for every sequence that has an accepted Start
 abbrev pub Always : (List Entry → Moment → Beginning → Type 0) → Type 0
-Always P = (first : Moment) (h : List Entry) (m : Moment) → Reached first h m → (b : Beginning) → last_start h ≡ some b → P h m b
+Always P = (first : Moment) (h : List Entry) (m : Moment) → Reached first h m → (b : Beginning) → last_start h ≡ Some b → P h m b
 
 -- 3, for two sequences: where they agree on one sender's deliveries and on the holder's clock, they agree on what is held from it.
 abbrev pub OneSendersOwn : Type 0
 OneSendersOwn =
-    (first first' : Moment) (h h' : List Entry) (m m' : Moment) → Reached first h m → Reached first' h' m' → (b b' : Beginning) → last_start h ≡ some b → last_start h' ≡ some b'
+    (first first' : Moment) (h h' : List Entry) (m m' : Moment) → Reached first h m → Reached first' h' m' → (b b' : Beginning) → last_start h ≡ Some b → last_start h' ≡ Some b'
     → (j : ℕ) → Correct b (accepted h) j → Correct b' (accepted h') j → runs (at h m b j) ≡ true → runs (at h' m' b' j) ≡ true
     → (i : ℕ) → deliveries i j (at h m b j) ≡ deliveries i j (at h' m' b' j) → clock (at h m b j) ≡ clock (at h' m' b' j)
     → (A : ℕ) (T : Dts) → holds m j A T i ≡ holds m' j A T i

@@ -1,11 +1,9 @@
 -- What has happened, told by the steps and their answers alone: no field of a site or of a record is looked at. Every list has the latest first.
-use Rattle.std.specs.Prelude.{ℕ, Bool, false, ◌&&◌, ◌||◌, cond, List, [], ◌∷◌, ◌++◌, eqb}
-use Rattle.std.proofs.Math.Option.{Option, none, some}
+use Rattle.std.specs.Prelude.{ℕ, Bool, false, ◌&&◌, ◌||◌, cond, List, [], ◌∷◌, ◌++◌, eqb, Option, None, Some}
 use Rattle.time.specs.declared.Dts.{Dts}
 use Rattle.time.specs.Fresh.{fresh, fresh_ones}
 use Rattle.senders.specs.Masks.{is_in}
 use Rattle.pairs.specs.declared.Pair.{Pair}
-use Rattle.pairs.specs.declared.Known.{Known}
 use Rattle.pairs.specs.Pair.{listed}
 use Rattle.pairs.specs.Shares.{delivered_from}
 use Rattle.steps.specs.declared.Beginning.{Beginning}
@@ -58,7 +56,7 @@ pub record Change : Type 0 where
   pub clock : Dts
   pub action : ℕ
   pub stamp : Dts
-  pub acked : Known
+  pub acked : Option Pair
   pub before : List Accepted
 
 -- A command is a change unless its status is the one that the breaker had: it then "is not an accepted change in demand 3" (§4 of 02).
@@ -99,12 +97,12 @@ abbrev pub last_report : List Accepted → Option ℕ
 last_report = Of.last_report named
 
 abbrev latest_of : Option Dts → Option Dts → Option Dts
-latest_of (some t) before = some t
-latest_of none before = before
+latest_of (Some t) before = Some t
+latest_of None before = before
 
 -- its clock: the one that its last step with a clock named
 abbrev pub clock : List Accepted → Option Dts
-clock [] = none
+clock [] = None
 clock (a ∷ rest) = latest_of (named a.step).clock (clock rest)
 
 -- it went down, or came up
@@ -131,8 +129,8 @@ runs rest = one_of (report ∷ []) (life rest) && one_of (ack ∷ query ∷ []) 
 
 -- the fresh ones of the stamps that a step names, at the clock that it names
 abbrev pub fresh_named : Option Dts → List Dts → List Dts
-fresh_named (some t) stamps = fresh_ones t stamps
-fresh_named none stamps = []
+fresh_named (Some t) stamps = fresh_ones t stamps
+fresh_named None stamps = []
 
 -- the shares of sender i that a step at node j brings it: the fresh ones of those that it delivers and, where the sender is j itself, those that it makes.
 -- "Own shares count at once as delivered."
@@ -148,5 +146,5 @@ deliveries i j (a ∷ rest) = cond (runs rest) (brought i j a ++ deliveries i j 
 
 -- the stamp is fresh at the clock, if there is one
 abbrev pub fresh_at_clock : Dts → Option Dts → Bool
-fresh_at_clock T none = false
-fresh_at_clock T (some t) = fresh T t
+fresh_at_clock T None = false
+fresh_at_clock T (Some t) = fresh T t

@@ -6,9 +6,8 @@ use Rattle.node.specs.declared.Node.{Node}
 use Rattle.events.specs.Events.{went_down}
 use Rattle.steps.specs.declared.Step.{Step}
 use Rattle.site.specs.declared.Site.{Site}
-use Rattle.site.specs.declared.Answer.{Answer}
 use Rattle.lent.specs.Lent.{out_of, table_after}
-use Rattle.site.specs.Answers.{is_done}
+use Rattle.site.specs.Answers.{is_done, Answer}
 use Rattle.history.specs.Sequences as Of
 pub use Rattle.history.specs.Sequences.{from, then}
 use Rattle.sequences.specs.History.{Entry}

@@ -1,18 +1,16 @@
 -- The state is the history's: over every sequence, counted from the last accepted Start, each field of the site and of every record is what Told.antt says.
 -- And what is sent, and what a refused step leaves.
-use Rattle.std.specs.Prelude.{ℕ, ◌≤◌, ◌<◌, ◌≡◌, true, ◌&&◌, List, [], ◌∷◌, ◌++◌}
+use Rattle.std.specs.Prelude.{ℕ, ◌≤◌, ◌<◌, ◌≡◌, true, ◌&&◌, List, [], ◌∷◌, ◌++◌, Option, None, Some, Ok, Err}
+use Rattle.refusals.specs.declared.Refusal.{Refusal}
 use Rattle.time.specs.declared.Dts.{Dts}
 use Rattle.time.specs.Fresh.{fresh_at, fresh}
 use Rattle.senders.specs.Masks.{is_in}
 use Rattle.store.specs.Held.{held}
 use Rattle.pairs.specs.declared.Pair.{Pair}
-use Rattle.pairs.specs.declared.Known.{Known}
-use Rattle.pairs.specs.declared.Known.TheVariants.{Yes, No}
 use Rattle.pairs.specs.declared.Pairs.{Pairs}
 use Rattle.pairs.specs.declared.Pairs.TheVariants.{Zero}
 use Rattle.pairs.specs.Pair.{listed, listed_known, has}
 use Rattle.node.specs.declared.Record.{Record}
-use Rattle.node.specs.declared.Resend.TheVariants.{Armed}
 use Rattle.node.specs.declared.Phase.TheVariants.{Running}
 use Rattle.node.specs.Asked.{is_down, is_running, known_b, known_second, Follows}
 use Rattle.events.specs.Events.{went_down}
@@ -22,7 +20,6 @@ use Rattle.steps.specs.declared.Step.TheVariants.{Start, Tick, AtNode, Life, AtB
 use Rattle.steps.specs.Named.{said_by}
 use Rattle.told.specs.Telling.{shares_by, again_by, combined_of, known_in}
 use Rattle.site.specs.declared.Sent.{Sent}
-use Rattle.site.specs.declared.Answer.TheVariants.{Done, Refused}
 use Rattle.site.specs.Site.{nodes, g}
 use Rattle.site.specs.Answers.{silence, number_of}
 use Rattle.sequences.specs.History.{Entry, Accepted, accepted, is_compromised, at_node, runs, deliveries}
@@ -73,7 +70,7 @@ module _ (h : List Entry) (m : Moment) (b : Beginning) where
 
 abbrev pub ResendsB : List Entry → Moment → Beginning → Type 0
 ResendsB h m b =
-    (j : ℕ) → Correct b (accepted h) j → (rec : Record) → (node_at m j).phase ≡ Running rec → (T : Dts) → rec.resend ≡ Armed T
+    (j : ℕ) → Correct b (accepted h) j → (rec : Record) → (node_at m j).phase ≡ Running rec → (T : Dts) → rec.resend ≡ Some T
     → (rec.b.stamp ≡ T) × (rec.r.status ≡ rec.b.status)
 
 -- ---- what is sent, for what the last Start gave and the accepted steps before
@@ -100,12 +97,12 @@ module _ (b : Beginning) (before : List Accepted) where
   commands_told a (AtBreaker t act) = []
 
   -- an accepted command is answered with the pair that the breaker has then, whether it changed it or not
-  abbrev pub ack_told : Accepted → Step → Known
-  ack_told a (Start b') = No
-  ack_told a Tick = No
-  ack_told a (AtNode j t event) = No
-  ack_told a (Life i turn) = No
-  ack_told a (AtBreaker t act) = Yes (breaker_pair b (a ∷ before))
+  abbrev pub ack_told : Accepted → Step → Option Pair
+  ack_told a (Start b') = None
+  ack_told a Tick = None
+  ack_told a (AtNode j t event) = None
+  ack_told a (Life i turn) = None
+  ack_told a (AtBreaker t act) = Some (breaker_pair b (a ∷ before))
 
 -- of an accepted step and those before it
 pub record SentSo (b : Beginning) (a : Accepted) (before : List Accepted) : Type 0 where
@@ -119,12 +116,12 @@ SentAsTold h m b = EachStep (SentSo b) (accepted h)
 
 -- and a Start sends nothing.
 abbrev pub StartsSilent : Type 0
-StartsSilent = (m : Moment) (b : Beginning) (sent : Sent) → answer_to m (Start b) ≡ Done sent → sent ≡ silence
+StartsSilent = (m : Moment) (b : Beginning) (sent : Sent) → answer_to m (Start b) ≡ Ok sent → sent ≡ silence
 
 -- ---- "Every refusal sends nothing and leaves site, table and clocks unchanged": the moment after it is the moment before, reached or not
 
 abbrev pub RefusedChangesNothing : Type 0
-RefusedChangesNothing = (m : Moment) (step : Step) (number : ℕ) → answer_to m step ≡ Refused number → after_step m step ≡ m
+RefusedChangesNothing = (m : Moment) (step : Step) (refusal : Refusal) → answer_to m step ≡ Err refusal → after_step m step ≡ m
 
 -- ---- A site that came from a Start is sound: with the table that was lent to it, no step after an accepted Start is answered 16. (So a flood of one sender's
 -- messages can never turn another away by it.)
@@ -139,9 +136,9 @@ NeverAbove h m b = (j : ℕ) → j < nodes b.f b.k → Follows (known_second (no
 
 -- ---- The second pair is the latest, by its stamp, of what this life's acks and queries have said of the breaker; where they have said nothing there is none.
 
-abbrev pub IsLatest : List Pair → Known → Type 0
-IsLatest heard (Yes p) = (has heard p.status p.stamp ≡ true) × Each (λ q. q.stamp.0 ≤ p.stamp.0) heard
-IsLatest heard No = heard ≡ []
+abbrev pub IsLatest : List Pair → Option Pair → Type 0
+IsLatest heard (Some p) = (has heard p.status p.stamp ≡ true) × Each (λ q. q.stamp.0 ≤ p.stamp.0) heard
+IsLatest heard None = heard ≡ []
 
 abbrev pub LatestHeard : List Entry → Moment → Beginning → Type 0
 LatestHeard h m b = (j : ℕ) → Correct b (accepted h) j → IsLatest (heard_to b j (accepted h)) (known_second (node_at m j).phase)

@@ -1,15 +1,12 @@
--- What a site and its nodes are, told by what has happened: by the accepted steps since the last accepted Start and what was sent in them. No field of a site
+-- What a site and its nodes are, told by what has happened: by the accepted steps since the last accepted Start and what was sent in them. None field of a site
 -- or of a record is looked at, and no definition of a step: this is a second text beside those, and that both say the same is a theorem (State.antt). Every
 -- list has the latest first. What one step tells a node stands in crates/told, specs/Telling.antt.
-use Rattle.std.specs.Prelude.{ℕ, zero, suc, ◌+◌, Bool, false, ◌&&◌, cond, List, [], ◌∷◌, ◌++◌, map, ltb, length, get_or}
-use Rattle.std.proofs.Math.Option.{Option, none, some}
+use Rattle.std.specs.Prelude.{ℕ, zero, suc, ◌+◌, Bool, false, ◌&&◌, cond, List, [], ◌∷◌, ◌++◌, map, ltb, length, get_or, Option, None, Some}
 use Rattle.tables.specs.Tables.{table}
 use Rattle.time.specs.declared.Dts.{Dts}
 use Rattle.time.specs.Larger.{larger}
 use Rattle.time.specs.Fresh.{fresh}
 use Rattle.pairs.specs.declared.Pair.{Pair}
-use Rattle.pairs.specs.declared.Known.{Known}
-use Rattle.pairs.specs.declared.Known.TheVariants.{Yes, No}
 use Rattle.pairs.specs.Pair.{pair, listed, listed_known, has}
 use Rattle.breaker.specs.declared.Changes.{Changes}
 use Rattle.breaker.specs.declared.Breaker.{Breaker}
@@ -45,7 +42,7 @@ abbrev pub first_or : Pair → List Pair → Pair
 first_or other [] = other
 first_or other (p ∷ more) = p
 
--- changes with these pairs, the newest first, "of the last eight": how many, and where; a place that none has is blank
+-- changes with these pairs, the newest first, "of the last eight": how many, and where; a place that None has is blank
 abbrev pub up_to_eight : ℕ → ℕ
 up_to_eight count = cond (ltb count most_changes) count most_changes
 
@@ -53,13 +50,13 @@ abbrev pub changes_of : List Pair → Changes
 changes_of pairs = record { pairs = table most_changes (λ k. get_or pairs k no_change); count = up_to_eight (length pairs) }
 
 -- "the breaker's change number `back` from the newest (0), of the last eight"
-abbrev pub numbered : List Pair → ℕ → Known
-numbered [] back = No
-numbered (p ∷ more) zero = Yes p
+abbrev pub numbered : List Pair → ℕ → Option Pair
+numbered [] back = None
+numbered (p ∷ more) zero = Some p
 numbered (p ∷ more) (suc back) = numbered more back
 
-abbrev pub numbered_of : List Pair → ℕ → Known
-numbered_of pairs back = cond (ltb back most_changes) (numbered pairs back) No
+abbrev pub numbered_of : List Pair → ℕ → Option Pair
+numbered_of pairs back = cond (ltb back most_changes) (numbered pairs back) None
 
 -- the clock of an accepted command
 abbrev clock_by : Step → Dts → Dts
@@ -70,7 +67,7 @@ clock_by (Life i turn) t = t
 clock_by (AtBreaker u act) t = u
 
 -- what a step at a node leaves it told: an event as Telling says, for the breaker as it is then; a turn in its life, nothing
-abbrev pub knows_by : Step → (ℕ → Known) → Pair → Known → Knows → Knows
+abbrev pub knows_by : Step → (ℕ → Option Pair) → Pair → Option Pair → Knows → Knows
 knows_by (Start b) change now sent k = k
 knows_by Tick change now sent k = k
 knows_by (AtNode i t event) change now sent k = knows_after (said_by event) t change now sent k
@@ -78,11 +75,11 @@ knows_by (Life i turn) change now sent k = nothing
 knows_by (AtBreaker t act) change now sent k = k
 
 -- what a step at a node says of the breaker, with what it has heard before; a turn in its life forgets that
-abbrev pub said_by_ack : Option ℕ → (ℕ → Known) → List Pair
-said_by_ack (some back) change = listed_known (change back)
-said_by_ack none change = []
+abbrev pub said_by_ack : Option ℕ → (ℕ → Option Pair) → List Pair
+said_by_ack (Some back) change = listed_known (change back)
+said_by_ack None change = []
 
-abbrev pub heard_with : Step → (ℕ → Known) → Pair → List Pair → List Pair
+abbrev pub heard_with : Step → (ℕ → Option Pair) → Pair → List Pair → List Pair
 heard_with (Start b) change now heard = heard
 heard_with Tick change now heard = heard
 heard_with (AtNode i t event) change now heard = cond (is_kind (said_by event).kind query) (now ∷ []) (said_by_ack (said_by event).back change) ++ heard
@@ -126,10 +123,10 @@ module _ (b : Beginning) where
 
   -- r and b of node j, and who it holds for an action and a stamp, once an event at its clock t has happened and before the combining rule is applied: a is that
   -- step with what was sent in it
-  abbrev pub r_then : List Accepted → ℕ → Dts → Event → Known
+  abbrev pub r_then : List Accepted → ℕ → Dts → Event → Option Pair
   r_then before j t event = relay_by (said_by event) t (told_to j before).b (told_to j before).r
 
-  abbrev pub b_then : List Accepted → ℕ → Dts → Event → Known
+  abbrev pub b_then : List Accepted → ℕ → Dts → Event → Option Pair
   b_then before j t event = breaker_by (said_by event) t (numbered_of (change_pairs before)) (breaker_pair before) (told_to j before)
 
 abbrev pub held_then : List Accepted → Accepted → ℕ → Dts → ℕ → Dts → ℕ → Bool
@@ -155,10 +152,10 @@ abbrev pub is_down_told : List Accepted → Bool
 is_down_told [] = false
 is_down_told (a ∷ rest) = down_by a.step (is_down_told rest)
 
--- its last clock in this life, 0 where it has none yet
+-- its last clock in this life, 0 where it has None yet
 abbrev or_none : Option Dts → Dts
-or_none (some t) = t
-or_none none = record { 0 = 0 }
+or_none (Some t) = t
+or_none None = record { 0 = 0 }
 
 abbrev pub last_clock_told : List Accepted → Dts
 last_clock_told own = or_none (clock (life own))

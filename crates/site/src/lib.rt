@@ -5,11 +5,12 @@
 pub mod sound;
 
 ghost use Rattle.std.specs.Prelude.{◌≡◌};
-ghost use Rattle.site.specs.laws.Answers.{answer_of};
+ghost use Rattle.site.specs.Answers.{number_of, silence};
 
 use breaker::Breaker;
 use node::Node;
-use pairs::{Known, Pairs};
+use pairs::{Pair, Pairs};
+use refusals::Refusal;
 use store::Store;
 
 pub const MOST_F: u8 = 4;
@@ -23,7 +24,8 @@ pub const LAST_START_G: u32 = 999999000;
 
 pub const LAST_G: u32 = 1000000000;
 
-// The site's clock g is the clock of `made`, the fresh shares that correct nodes have made since Start.
+// The site's clock g is the clock of `made`, the fresh shares that correct nodes have made since Start. `started` stays a flag beside the rest: a site that is not
+// started is handed back as it was given, every number of it (`refused`), which an Option would lose.
 #[derive(Clone, Copy)]
 pub struct Site {
     pub started: bool,
@@ -40,14 +42,11 @@ pub struct Site {
 pub struct Sent {
     pub shares: Pairs,
     pub commands: Pairs,
-    pub ack: Known,
+    pub ack: Option<Pair>,
 }
 
-#[derive(Clone, Copy)]
-pub enum Answer {
-    Done(Sent),
-    Refused(u8),
-}
+// What a step answers: what it sends where it is done, or why it is refused.
+pub type Answer = Result<Sent, Refusal>;
 
 #[derive(Clone, Copy)]
 pub struct Out {
@@ -56,13 +55,23 @@ pub struct Out {
     pub node: Node,
 }
 
-// The answer by its number: with 0 the step is done.
-pub fn answer_by(refusal: u8, sent: Sent) -> Answer
-    ensures { result ≡ answer_of refusal sent }
+// The number that document 01 gives an answer.
+pub fn number_of(answer: Answer) -> u8
+    ensures { result ≡ number_of answer }
 {
-    if refusal == 0 {
-        Answer::Done(sent)
-    } else {
-        Answer::Refused(refusal)
+    match answer {
+        Ok(_) => 0,
+        Err(refusal) => refusal.number(),
+    }
+}
+
+// A step that sends nothing.
+pub fn silence() -> Sent
+    ensures { result ≡ silence }
+{
+    Sent {
+        shares: Pairs::Zero,
+        commands: Pairs::Zero,
+        ack: None,
     }
 }

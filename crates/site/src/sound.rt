@@ -16,37 +16,37 @@ fn are_numbers_sound(site: Site) -> bool
     ensures { result ≡ numbers_sound site }
 {
     let g = site.made.clock.0;
-    (site.f <= MOST_F) & (site.k <= MOST_K) & (FIRST_G <= g) & (g <= LAST_G)
+    (site.f <= MOST_F) & (site.k <= MOST_K) & (FIRST_G..=LAST_G).contains(&g)
 }
 
+#[tactic(auto, unfolding(crate::specs::Site::sets_sound))]
 fn are_sets_sound(site: Site, n: u32) -> bool
     ensures { result ≡ sets_sound site n }
 {
-    let made = site.made;
-    let compromised = senders::is_within(site.compromised, n);
-    let few = senders::how_many(site.compromised) <= site.f as u32;
-    let down = senders::is_within(site.down, n);
-    let shares = made.is_within(n);
-    compromised & few & down & shares
+    senders::is_within(site.compromised, n)
+        & (senders::how_many(site.compromised) <= site.f as u32)
+        & senders::is_within(site.down, n)
+        & site.made.is_within(n)
 }
 
 // Whether a site has been started, has n records lent to it, and every number of it is in its range.
+#[tactic(auto, unfolding(crate::specs::Site::site_sound))]
 pub fn is_site_sound(site: Site, lent: usize) -> bool
     ensures { result ≡ site_sound site lent }
 {
-    let breaker = site.breaker;
     let n = nodes(site.f, site.k);
-    let numbers = are_numbers_sound(site);
-    let sets = are_sets_sound(site, n);
-    let sound = breaker::is_sound(breaker);
-    site.started & (n as usize <= lent) & numbers & sets & sound
+    site.started
+        & (n as usize <= lent)
+        & are_numbers_sound(site)
+        & are_sets_sound(site, n)
+        & breaker::is_sound(site.breaker)
 }
 
 // Whether the acting node's record is in its range. A node from n on has no record.
+#[tactic(auto, unfolding(crate::specs::Site::actor_sound))]
 pub fn is_actor_sound(site: Site, node: Node, i: u8) -> bool
     ensures { result ≡ actor_sound site node i }
 {
     let n = nodes(site.f, site.k);
-    let sound = node::asked::is_sound(node, n);
-    (n <= i as u32) | sound
+    (n <= i as u32) | node::asked::is_sound(node, n)
 }

@@ -1,5 +1,6 @@
 -- Every step: its tests, and what it does where all are passed.
-use Rattle.std.specs.Prelude.{ℕ, cond, eqb}
+use Rattle.std.specs.Prelude.{ℕ, Result, Ok, Err}
+use Rattle.refusals.specs.declared.Refusal.{Refusal}
 use Rattle.refusals.specs.Tests.{refusal}
 use Rattle.steps.specs.declared.Step.{Step}
 use Rattle.node.specs.declared.Node.{Node}
@@ -9,9 +10,10 @@ use Rattle.refusing.specs.Tests.{tests_of}
 use Rattle.site.specs.Answers.{refused}
 use Rattle.effects.specs.Effects.{effect_of}
 
--- done, or refused with the number of the first test that fails
-abbrev pub decided : ℕ → Out → Site → Node → Out
-decided number out site node = cond (eqb number 0) out (refused number site node)
+-- done, or refused with the refusal of the first test that fails
+abbrev pub decided : Result (Unit {0}) Refusal → Out → Site → Node → Out
+decided (Ok done) out site node = out
+decided (Err refusal) out site node = refused refusal site node
 
 unfoldable pub stepped : Site → ℕ → Node → Step → Out
 stepped site lent node step = decided (refusal (tests_of site lent node step)) (effect_of site node step) site node

@@ -57,14 +57,7 @@ pub fn node_of(step: Step) -> u8
     ensures { result ≡ actor_or0 (named step).actor }
 {
     match step {
-        Step::AtNode {
-            node: i,
-            t: _,
-            event: _,
-        } => i,
-        Step::Life { node: i, turn: _ } => i,
-        Step::Start(_) => 0,
-        Step::Tick => 0,
-        Step::AtBreaker { t: _, act: _ } => 0,
+        Step::AtNode { node, .. } | Step::Life { node, .. } => node,
+        Step::Start(_) | Step::Tick | Step::AtBreaker { .. } => 0,
     }
 }

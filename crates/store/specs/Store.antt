@@ -1,13 +1,11 @@
 -- "Share store: for each action and each fresh stamp, the set of senders whose share has been delivered". Which place of the array is whose is
 -- said here and nowhere else: the layers above go by what is held (Held).
-use Rattle.std.specs.Prelude.{ℕ, ◌+◌, ◌*◌, ◌-◌, ◌%◌, Bool, true, ◌&&◌, cond, List, [], ◌∷◌, eqb, leb, ltb, get_or}
+use Rattle.std.specs.Prelude.{ℕ, ◌+◌, ◌*◌, ◌-◌, ◌%◌, Bool, true, ◌&&◌, cond, List, [], ◌∷◌, eqb, leb, ltb, get_or, Option, None, Some}
 use Rattle.time.specs.declared.Dts.{Dts}
 use Rattle.time.specs.Fresh.{fresh, window}
 use Rattle.senders.specs.Masks.{joined, within}
 use Rattle.tables.specs.Tables.{table}
 use Rattle.store.specs.declared.Store.{Store}
-use Rattle.store.specs.declared.Place.{Place}
-use Rattle.store.specs.declared.Place.TheVariants.{At, Nowhere}
 
 -- "Status 0 is CLOSE, 1 is TRIP"; the stamps that are fresh at a clock; a place for each action and each of those
 abbrev pub actions : ℕ
@@ -27,8 +25,8 @@ has_place clock action T = ltb action actions && fresh T clock
 abbrev pub place : ℕ → Dts → ℕ
 place action T = action * stamps + T.0 % stamps
 
-unfoldable pub place_of : Dts → ℕ → Dts → Place
-place_of clock action T = cond (has_place clock action T) (At (place action T)) Nowhere
+unfoldable pub place_of : Dts → ℕ → Dts → Option ℕ
+place_of clock action T = cond (has_place clock action T) (Some (place action T)) None
 
 -- the set at a place
 abbrev pub set_at : Store → ℕ → ℕ

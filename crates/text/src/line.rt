@@ -1,14 +1,12 @@
 // A line: number, refusal, the breaker, and what was sent.
-ghost use Rattle.std.specs.Prelude.{◌+◌, ◌≤◌, ◌≡◌, [], ◌∷◌, ◌++◌, map, leb, length};
-ghost use Rattle.pairs.specs.Pair.{listed, listed_known};
-ghost use Rattle.site.specs.Answers.{Message};
-ghost use Rattle.text.specs.Puts.{Puts};
+ghost use Rattle.std.specs.Prelude.{◌+◌, ◌*◌, ◌<◌, ◌≡◌, [], ◌∷◌, leb};
+ghost use Rattle.text.specs.Outputs.{HasRoom, Put, node_room};
 ghost use Rattle.text.specs.Decimal.{decimal};
-ghost use Rattle.text.specs.Line.{letter, pair_text, after_commas, head_with, tail_text, line_with, message_tail, message_line, shown_status, shown_stamp};
+ghost use Rattle.text.specs.Line.{letter, pair_text, node_text, lettered, all_lettered, after_commas, head_with, tail_text, line_with, message_tail, message_line, shown_status, shown_stamp};
 ghost use Rattle.text.specs.Lines.{longest_line, sent_messages, line_bytes, line_next};
 
 use crate::{put_few, put_number};
-use pairs::{Known, Pair, Pairs};
+use pairs::{Pair, Pairs};
 use site::{Sent, Site};
 
 // Room for this many bytes is asked for before a line: no line is longer.
@@ -20,131 +18,170 @@ fn letter(status: u8) -> u8
     if status == 0 { b'C' } else { b'T' }
 }
 
-fn put_byte(out: &mut [u8], at: usize, byte: u8) -> usize
-    requires { at + 1 ≤ length out.old }
-    ensures { Puts out.old at (byte ∷ []) out.new result }
-{
-    out[at] = byte;
-    at + 1
+// Where text is put: a lent buffer, and the place of the next byte in it. Its methods are inlined, so that both stay in registers.
+#[derive(Drop)]
+struct Output<'a> {
+    bytes: &'a mut [u8],
+    at: usize,
 }
 
-// A status, an at sign and a stamp.
-fn put_stamped(out: &mut [u8], at: usize, pair: Pair) -> usize
-    requires { at + 22 ≤ length out.old }
-    ensures { Puts out.old at (pair_text pair) out.new result }
-{
-    let status = letter(pair.status);
-    let a = put_byte(out, at, status);
-    let b = put_byte(out, a, b'@');
-    put_number(out, b, pair.stamp.0 as u64)
-}
+impl Output<'_> {
+    #[inline(always)]
+    fn put_number(&mut self, n: u64)
+        requires { HasRoom self.old 20 }
+        ensures same { self.new.bytes.ghost_name ≡ self.old.bytes.ghost_name }
+        ensures text { Put self.old (decimal n) self.new }
+    {
+        self.at = put_number(self.bytes, self.at, n);
+    }
 
-// A comma, a letter and a pair.
-fn put_pair(out: &mut [u8], at: usize, first: u8, pair: Pair) -> usize
-    requires { at + 24 ≤ length out.old }
-    ensures { Puts out.old at (44 ∷ first ∷ pair_text pair) out.new result }
-{
-    let a = put_byte(out, at, b',');
-    let b = put_byte(out, a, first);
-    put_stamped(out, b, pair)
-}
+    // A number of at most four digits.
+    #[inline(always)]
+    fn put_few(&mut self, n: u32)
+        requires below { n < 10000 }
+        requires room { HasRoom self.old 4 }
+        ensures same { self.new.bytes.ghost_name ≡ self.old.bytes.ghost_name }
+        ensures text { Put self.old (decimal n) self.new }
+    {
+        self.at = put_few(self.bytes, self.at, n);
+    }
 
-// A comma and a share.
-fn put_share(out: &mut [u8], at: usize, i: u8, pair: Pair) -> usize
-    requires { at + 44 ≤ length out.old }
-    ensures { Puts out.old at (44 ∷ 83 ∷ (decimal i ++ pair_text pair)) out.new result }
-{
-    let a = put_byte(out, at, b',');
-    let b = put_byte(out, a, b'S');
-    let c = put_number(out, b, i as u64);
-    put_stamped(out, c, pair)
-}
+    #[inline(always)]
+    fn put_byte(&mut self, byte: u8)
+        requires { HasRoom self.old 1 }
+        ensures same { self.new.bytes.ghost_name ≡ self.old.bytes.ghost_name }
+        ensures text { Put self.old (byte ∷ []) self.new }
+    {
+        self.bytes[self.at] = byte;
+        self.at += 1;
+    }
 
-fn put_shares(out: &mut [u8], at: usize, i: u8, shares: Pairs) -> usize
-    requires { at + 88 ≤ length out.old }
-    ensures { Puts out.old at (after_commas i (map Message.Share (listed shares))) out.new result }
-{
-    match shares {
-        Pairs::Zero => at,
-        Pairs::One(p) => put_share(out, at, i, p),
-        Pairs::Two(p, q) => {
-            let next = put_share(out, at, i, p);
-            put_share(out, next, i, q)
+    // A status, an at sign and a stamp.
+    #[inline(always)]
+    fn put_stamped(&mut self, pair: Pair)
+        requires { HasRoom self.old 22 }
+        ensures same { self.new.bytes.ghost_name ≡ self.old.bytes.ghost_name }
+        ensures text { Put self.old (pair_text pair) self.new }
+    {
+        self.put_byte(letter(pair.status));
+        self.put_byte(b'@');
+        self.put_number(pair.stamp.0 as u64);
+    }
+
+    // The number of a node, where one is named.
+    #[inline(always)]
+    fn put_node(&mut self, node: Option<u8>)
+        requires { HasRoom self.old (node_room node) }
+        ensures same { self.new.bytes.ghost_name ≡ self.old.bytes.ghost_name }
+        ensures text { Put self.old (node_text node) self.new }
+    {
+        match node {
+            Some(i) => self.put_number(i as u64),
+            None => {}
         }
     }
-}
 
-fn put_commands(out: &mut [u8], at: usize, i: u8, commands: Pairs) -> usize
-    requires { at + 48 ≤ length out.old }
-    ensures { Puts out.old at (after_commas i (map Message.Command (listed commands))) out.new result }
-{
-    match commands {
-        Pairs::Zero => at,
-        Pairs::One(p) => put_pair(out, at, b'C', p),
-        Pairs::Two(p, q) => {
-            let next = put_pair(out, at, b'C', p);
-            put_pair(out, next, b'C', q)
+    // A comma, a letter, the node of a share, and a pair.
+    #[inline(always)]
+    fn put_pair(&mut self, first: u8, node: Option<u8>, pair: Pair)
+        requires { HasRoom self.old (24 + node_room node) }
+        ensures same { self.new.bytes.ghost_name ≡ self.old.bytes.ghost_name }
+        ensures text { Put self.old (lettered first node pair) self.new }
+    {
+        self.put_byte(b',');
+        self.put_byte(first);
+        self.put_node(node);
+        self.put_stamped(pair);
+    }
+
+    #[inline(always)]
+    fn put_pairs(&mut self, first: u8, node: Option<u8>, pairs: Pairs)
+        requires { HasRoom self.old (2 * (24 + node_room node)) }
+        ensures same { self.new.bytes.ghost_name ≡ self.old.bytes.ghost_name }
+        ensures text { Put self.old (all_lettered first node pairs) self.new }
+    {
+        match pairs {
+            Pairs::Zero => {}
+            Pairs::One(p) => self.put_pair(first, node, p),
+            Pairs::Two(p, q) => {
+                self.put_pair(first, node, p);
+                self.put_pair(first, node, q);
+            }
         }
     }
-}
 
-fn put_ack(out: &mut [u8], at: usize, i: u8, ack: Known) -> usize
-    requires { at + 24 ≤ length out.old }
-    ensures { Puts out.old at (after_commas i (map Message.Ack (listed_known ack))) out.new result }
-{
-    match ack {
-        Known::Yes(p) => put_pair(out, at, b'A', p),
-        Known::No => at,
+    // Everything that was sent, each message with a comma in front.
+    #[inline(always)]
+    fn put_sent(&mut self, i: u8, sent: Sent)
+        requires { HasRoom self.old 160 }
+        ensures same { self.new.bytes.ghost_name ≡ self.old.bytes.ghost_name }
+        ensures text { Put self.old (after_commas i (sent_messages sent)) self.new }
+    {
+        self.put_pairs(b'S', Some(i), sent.shares);
+        self.put_pairs(b'C', None, sent.commands);
+        match sent.ack {
+            Some(p) => self.put_pair(b'A', None, p),
+            None => {}
+        }
     }
-}
 
-// Everything that was sent, each message with a comma in front.
-fn put_sent(out: &mut [u8], at: usize, i: u8, sent: Sent) -> usize
-    requires { at + 160 ≤ length out.old }
-    ensures { Puts out.old at (after_commas i (sent_messages sent)) out.new result }
-{
-    let shares = sent.shares;
-    let commands = sent.commands;
-    let ack = sent.ack;
-    let after_shares = put_shares(out, at, i, shares);
-    let after_commands = put_commands(out, after_shares, i, commands);
-    put_ack(out, after_commands, i, ack)
-}
-
-fn put_head(out: &mut [u8], at: usize, number: u64, refusal: u8, status: u8, stamp: u32) -> usize
-    requires { at + 64 ≤ length out.old }
-    ensures { Puts out.old at (head_with number refusal status stamp) out.new result }
-{
-    let a = put_number(out, at, number);
-    let b = put_byte(out, a, b' ');
-    let c = put_few(out, b, refusal as u32);
-    let d = put_byte(out, c, b' ');
-    let e = put_byte(out, d, status);
-    let f = put_byte(out, e, b' ');
-    put_number(out, f, stamp as u64)
-}
-
-// The end of a line with nothing sent.
-fn put_nothing(out: &mut [u8], at: usize) -> usize
-    requires { at + 3 ≤ length out.old }
-    ensures { Puts out.old at (32 ∷ 45 ∷ 10 ∷ []) out.new result }
-{
-    let a = put_byte(out, at, b' ');
-    let b = put_byte(out, a, b'-');
-    put_byte(out, b, b'\n')
-}
-
-// What was sent, from the place of the space before it to the line's end.
-fn put_tail(out: &mut [u8], at: usize, i: u8, sent: Sent) -> usize
-    requires { at + 163 ≤ length out.old }
-    ensures { Puts out.old at (tail_text i (sent_messages sent)) out.new result }
-{
-    let next = put_sent(out, at, i, sent);
-    if next == at {
-        return put_nothing(out, at);
+    #[inline(always)]
+    fn put_head(&mut self, number: u64, refusal: u8, status: u8, stamp: u32)
+        requires { HasRoom self.old 64 }
+        ensures same { self.new.bytes.ghost_name ≡ self.old.bytes.ghost_name }
+        ensures text { Put self.old (head_with number refusal status stamp) self.new }
+    {
+        self.put_number(number);
+        self.put_byte(b' ');
+        self.put_few(refusal as u32);
+        self.put_byte(b' ');
+        self.put_byte(status);
+        self.put_byte(b' ');
+        self.put_number(stamp as u64);
     }
-    put_byte(out, at, b' ');
-    put_byte(out, next, b'\n')
+
+    // The end of a line with nothing sent.
+    #[inline(always)]
+    fn put_nothing(&mut self)
+        requires { HasRoom self.old 3 }
+        ensures same { self.new.bytes.ghost_name ≡ self.old.bytes.ghost_name }
+        ensures text { Put self.old (32 ∷ 45 ∷ 10 ∷ []) self.new }
+    {
+        self.put_byte(b' ');
+        self.put_byte(b'-');
+        self.put_byte(b'\n');
+    }
+
+    // What was sent, from the place of the space before it to the line's end.
+    #[inline(always)]
+    fn put_tail(&mut self, i: u8, sent: Sent)
+        requires { HasRoom self.old 163 }
+        ensures same { self.new.bytes.ghost_name ≡ self.old.bytes.ghost_name }
+        ensures text { Put self.old (tail_text i (sent_messages sent)) self.new }
+    {
+        let space = self.at;
+        self.put_sent(i, sent);
+        if self.at == space {
+            self.put_nothing();
+        } else {
+            self.bytes[space] = b' ';
+            self.put_byte(b'\n');
+        }
+    }
+
+    // A space, a message of node i, and the line's end.
+    #[inline(always)]
+    fn put_vote(&mut self, i: u8, pair: Pair)
+        requires { HasRoom self.old 46 }
+        ensures same { self.new.bytes.ghost_name ≡ self.old.bytes.ghost_name }
+        ensures text { Put self.old (message_tail i pair) self.new }
+    {
+        self.put_byte(b' ');
+        self.put_byte(b'M');
+        self.put_number(i as u64);
+        self.put_stamped(pair);
+        self.put_byte(b'\n');
+    }
 }
 
 pub fn shown_status(site: Site) -> u8
@@ -178,7 +215,7 @@ fn has_room(size: usize, at: usize) -> bool
 }
 
 // Puts the line of a step that sent nothing, where there is room for the longest; otherwise nothing is written, and the place handed back is the
-// one given.
+// one given. The three that follow have their own ends of a line and each a theorem of its own; one function with the end handed in would be no shorter.
 pub fn put_quiet(
     out: &mut [u8],
     at: usize,
@@ -190,8 +227,10 @@ pub fn put_quiet(
     ensures { (out.new ≡ line_bytes out.old at (line_with number refusal status stamp 0 [])) × (result ≡ line_next out.old at (line_with number refusal status stamp 0 [])) }
 {
     if has_room(out.len(), at) {
-        let space = put_head(out, at, number, refusal, status, stamp);
-        return put_nothing(out, space);
+        let mut line = Output { bytes: out, at };
+        line.put_head(number, refusal, status, stamp);
+        line.put_nothing();
+        return line.at;
     }
     at
 }
@@ -209,22 +248,12 @@ pub fn put_loud(
     ensures { (out.new ≡ line_bytes out.old at (line_with number 0 status stamp i (sent_messages sent))) × (result ≡ line_next out.old at (line_with number 0 status stamp i (sent_messages sent))) }
 {
     if has_room(out.len(), at) {
-        let space = put_head(out, at, number, 0, status, stamp);
-        return put_tail(out, space, i, sent);
+        let mut line = Output { bytes: out, at };
+        line.put_head(number, 0, status, stamp);
+        line.put_tail(i, sent);
+        return line.at;
     }
     at
-}
-
-// A space, a message of node i, and the line's end.
-fn put_vote(out: &mut [u8], at: usize, i: u8, pair: Pair) -> usize
-    requires { at + 46 ≤ length out.old }
-    ensures { Puts out.old at (message_tail i pair) out.new result }
-{
-    let a = put_byte(out, at, b' ');
-    let b = put_byte(out, a, b'M');
-    let c = put_number(out, b, i as u64);
-    let d = put_stamped(out, c, pair);
-    put_byte(out, d, b'\n')
 }
 
 // The same for a step of an Arbiter site that was done and sent the breaker a message.
@@ -240,8 +269,10 @@ pub fn put_message(
     ensures { (out.new ≡ line_bytes out.old at (message_line number status stamp i pair)) × (result ≡ line_next out.old at (message_line number status stamp i pair)) }
 {
     if has_room(out.len(), at) {
-        let space = put_head(out, at, number, 0, status, stamp);
-        return put_vote(out, space, i, pair);
+        let mut line = Output { bytes: out, at };
+        line.put_head(number, 0, status, stamp);
+        line.put_vote(i, pair);
+        return line.at;
     }
     at
 }

@@ -1,8 +1,11 @@
 -- From a clock reading in microseconds to a discretised time stamp.
-use Rattle.std.specs.Prelude.{ℕ, ◌+◌, ◌/◌, cond, ◌&&◌, List, [], ◌∷◌, nat_le}
-use Rattle.refusals.specs.Tests.{Test, refusal, passed}
+use Rattle.std.specs.Prelude.{ℕ, ◌+◌, ◌/◌, ◌&&◌, List, [], ◌∷◌, nat_le, Result, Ok, Err}
+use Rattle.refusals.specs.declared.Refusal.{Refusal}
+use Rattle.refusals.specs.declared.Refusal.TheVariants.{BadStart, LastClock}
+use Rattle.refusals.specs.Numbers.{number}
+use Rattle.refusals.specs.Tests.{Test, refusal, giving}
+use Rattle.time.specs.declared.Dts.{Dts}
 use Rattle.time.specs.declared.Micros.{Micros}
-use Rattle.time.specs.declared.Discretised.{Discretised}
 use Rattle.time.specs.declared.Rounding.{Rounding}
 use Rattle.time.specs.declared.Rounding.TheVariants.{Down, Nearest}
 
@@ -31,21 +34,26 @@ whole_part rounding reading interval = (reading.0 + added rounding interval.0) /
 
 abbrev pub discretising_tests : Rounding → Micros → Micros → List Test
 discretising_tests rounding reading interval =
-    (1, nat_le shortest_interval interval.0 && nat_le interval.0 longest_interval)
-    ∷ (15, nat_le (whole_part rounding reading interval) last_stamp)
+    (BadStart, nat_le shortest_interval interval.0 && nat_le interval.0 longest_interval)
+    ∷ (LastClock, nat_le (whole_part rounding reading interval) last_stamp)
     ∷ []
 
--- "A refused discretising gives stamp 0"
+unfoldable pub discretised_by : Rounding → Micros → Micros → Result Dts Refusal
+discretised_by rounding reading interval =
+    giving (refusal (discretising_tests rounding reading interval)) (record { 0 = whole_part rounding reading interval })
+
+-- where no rounding is named, down
+abbrev pub discretised : Micros → Micros → Result Dts Refusal
+discretised = discretised_by Down
+
+-- 01's answer to a reading, a number and a stamp: "A refused discretising gives stamp 0"
+pub record Discretised : Type 0 where
+  pub refusal : ℕ
+  pub stamp : Dts
+
 abbrev pub refused_reading : ℕ → Discretised
 refused_reading number = record { refusal = number; stamp = record { 0 = 0 } }
 
-unfoldable pub discretised_by : Rounding → Micros → Micros → Discretised
-discretised_by rounding reading interval =
-    record {
-      refusal = refusal (discretising_tests rounding reading interval);
-      stamp = record { 0 = cond (passed (discretising_tests rounding reading interval)) (whole_part rounding reading interval) 0 };
-    }
-
--- where no rounding is named, down
-abbrev pub discretised : Micros → Micros → Discretised
-discretised = discretised_by Down
+abbrev pub in_numbers : Result Dts Refusal → Discretised
+in_numbers (Ok stamp) = record { refusal = 0; stamp = stamp }
+in_numbers (Err refusal) = refused_reading (number refusal)

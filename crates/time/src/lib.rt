@@ -2,17 +2,19 @@
 #![tactic(auto)]
 
 ghost use Rattle.std.specs.Prelude.{◌≡◌};
-ghost use Rattle.time.specs.Discretising.{added, refused_reading, discretised_by, discretised, default_interval};
+ghost use Rattle.time.specs.Discretising.{added, discretised_by, discretised, default_interval, in_numbers};
 ghost use Rattle.time.specs.Fresh.{fresh, next};
 ghost use Rattle.time.specs.Larger.{larger};
 ghost use Rattle.time.specs.Newer.{newer};
+
+use refusals::Refusal;
 
 // A clock reading, or an interval, in microseconds.
 #[derive(Clone, Copy)]
 pub struct Micros(pub u64);
 
 // A discretised time stamp.
-#[derive(Clone, Copy)]
+#[derive(Clone, Copy, PartialEq, Eq, PartialOrd, Ord)]
 pub struct Dts(pub u32);
 
 // How a reading becomes a whole number of intervals.
@@ -39,21 +41,6 @@ pub const LAST_HELD_STAMP: u32 = 1000000003;
 
 pub const LAST_HELD_CLOCK: u32 = 1000000003;
 
-#[derive(Clone, Copy)]
-pub struct Discretised {
-    pub refusal: u8,
-    pub stamp: Dts,
-}
-
-fn refused(number: u8) -> Discretised
-    ensures { result ≡ refused_reading number }
-{
-    Discretised {
-        refusal: number,
-        stamp: Dts(0),
-    }
-}
-
 // What a rounding adds before it divides.
 fn added(rounding: Rounding, width: u64) -> u64
     ensures { result ≡ added rounding width }
@@ -65,40 +52,47 @@ fn added(rounding: Rounding, width: u64) -> u64
 }
 
 // A reading with what is added may have more than 64 bits: it is divided first, and the remainder is rounded.
-pub fn discretise_by(rounding: Rounding, reading: Micros, interval: Micros) -> Discretised
+pub fn discretise_by(rounding: Rounding, reading: Micros, interval: Micros) -> Result<Dts, Refusal>
     ensures { result ≡ discretised_by rounding reading interval }
 {
     let width = interval.0;
     if width < SHORTEST_INTERVAL {
-        return refused(1);
+        return Err(Refusal::BadStart);
     }
     if LONGEST_INTERVAL < width {
-        return refused(1);
+        return Err(Refusal::BadStart);
     }
     let reading = reading.0;
     let more = added(rounding, width);
     let stamp = reading / width + (reading % width + more) / width;
     if LAST_STAMP < stamp {
-        return refused(15);
+        return Err(Refusal::LastClock);
     }
-    Discretised {
-        refusal: 0,
-        stamp: Dts(stamp as u32),
-    }
+    Ok(Dts(stamp as u32))
 }
 
 // For whoever names no rounding: down.
-pub fn discretise(reading: Micros, interval: Micros) -> Discretised
+pub fn discretise(reading: Micros, interval: Micros) -> Result<Dts, Refusal>
     ensures { result ≡ discretised reading interval }
 {
     discretise_by(Rounding::Down, reading, interval)
 }
 
 // For whoever names no interval either.
-pub fn discretise_by_default(reading: Micros) -> Discretised
+pub fn discretise_by_default(reading: Micros) -> Result<Dts, Refusal>
     ensures { result ≡ discretised reading default_interval }
 {
     discretise(reading, Micros(DEFAULT_INTERVAL))
+}
+
+// The stamp that document 01 gives with an answer: 0 where the reading is refused.
+pub fn stamp_of(discretised: Result<Dts, Refusal>) -> Dts
+    ensures { result ≡ (in_numbers discretised).stamp }
+{
+    match discretised {
+        Ok(stamp) => stamp,
+        Err(_) => Dts(0),
+    }
 }
 
 // Whether a stamp is fresh at a clock.
@@ -111,23 +105,24 @@ pub fn is_fresh(stamp: Dts, clock: Dts) -> bool
 }
 
 // The stamp after one: stamps have 32 bits and wrap, which no step of a site comes near.
+#[tactic(auto, unfolding(crate::specs::Fresh::next))]
 pub fn next(stamp: Dts) -> Dts
     ensures { result ≡ next stamp }
 {
-    Dts(std::num::wrapping_add_u32(stamp.0, 1))
+    Dts(stamp.0.wrapping_add(1))
 }
 
 // The larger of two stamps.
 pub fn larger(a: Dts, b: Dts) -> Dts
     ensures { result ≡ larger a b }
 {
-    if a.0 <= b.0 { b } else { a }
+    a.max(b)
 }
 
 // Whether a relay's state number is new after the last one.
 pub fn is_newer(number: u32, last: u32) -> bool
     ensures { result ≡ newer number last }
 {
-    let ahead = std::num::wrapping_sub_u32(number, last);
+    let ahead = number.wrapping_sub(last);
     (1 <= ahead) & (ahead <= 2147483647)
 }

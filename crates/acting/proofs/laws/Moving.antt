@@ -1,12 +1,10 @@
 -- What a running node takes for the breaker's status and stamp, b, moves only by an ack, by a command that it sends in that step, or, at a resend timeout
 -- whose stamp is no longer fresh, back to the second pair (§9 of 02). So its stamp can fall, and then alone.
-use Rattle.std.specs.Prelude.{ℕ, ◌≡◌, true, ◌⊎◌}
+use Rattle.std.specs.Prelude.{ℕ, ◌≡◌, true, ◌⊎◌, Option, Some}
 use Rattle.std.proofs.Common.{sym, ap, subst, ◌∙◌, inl, inr}
 use Rattle.time.specs.declared.Dts.{Dts}
 use Rattle.store.specs.declared.Store.{Store}
 use Rattle.pairs.specs.declared.Pair.{Pair}
-use Rattle.pairs.specs.declared.Known.{Known}
-use Rattle.pairs.specs.declared.Known.TheVariants.{Yes}
 use Rattle.pairs.specs.declared.Pairs.{Pairs}
 use Rattle.pairs.specs.Pair.{listed, has}
 use Rattle.pairs.specs.laws.KnownLaws.{same_known}
@@ -39,34 +37,34 @@ moved_to breaker node i f t event rec new runs e = go (ended-b own f left new e)
     own : Store
     own = put_all (stored node.phase node.store t event) i (changed_by breaker node.phase t event).shares
 
-    before : Known
+    before : Option Pair
     before = (changed_by breaker node.phase t event).command
 
     Moved : Type 0
     Moved = MovedTo breaker t event node.phase rec.b new.b (followed before (ended left own f).command)
 
-    as_it_was : known_b node.phase ≡ Yes new.b → Moved
+    as_it_was : known_b node.phase ≡ Some new.b → Moved
     as_it_was h = inl (same_known new.b rec.b (sym h ∙ ap known_b runs))
 
-    by-ack : (known_b node.phase ≡ Yes new.b) ⊎ Acked breaker event new.b → Moved
+    by-ack : (known_b node.phase ≡ Some new.b) ⊎ Acked breaker event new.b → Moved
     by-ack (inl h) = as_it_was h
     by-ack (inr h) = inr (inl h)
 
-    by-return : (known_b node.phase ≡ Yes new.b) ⊎ Returned t event node.phase new.b → Moved
+    by-return : (known_b node.phase ≡ Some new.b) ⊎ Returned t event node.phase new.b → Moved
     by-return (inl h) = as_it_was h
     by-return (inr h) = inr (inr (inr h))
 
     -- before the combining rule
-    event-moved : BreakerLeft breaker t event node.phase left → known_b left ≡ Yes new.b → Moved
+    event-moved : BreakerLeft breaker t event node.phase left → known_b left ≡ Some new.b → Moved
     event-moved (b-stays no-news same) h = as_it_was (sym same ∙ h)
     event-moved (b-learned is-news known moves) h = by-ack (moves (ap phase_running runs) new.b h)
     event-moved (b-returns no-news same moves) h = by-return (moves new.b h)
 
-    go : (known_b left ≡ Yes new.b) ⊎ ((ended left own f).command ≡ Yes new.b) → Moved
+    go : (known_b left ≡ Some new.b) ⊎ ((ended left own f).command ≡ Some new.b) → Moved
     go (inl h) = event-moved (left_by breaker node.phase t event).of-phase.b h
     go (inr h) =
         inr
         (inr
         (inl
-        (subst (λ (k : Known). has (listed (followed before k)) new.b.status new.b.stamp ≡ true) (sym h)
+        (subst (λ (k : Option Pair). has (listed (followed before k)) new.b.status new.b.stamp ≡ true) (sym h)
         (followed-has before new.b))))

@@ -1,10 +1,8 @@
 -- r after an event: a Report tells it, and no other event moves it.
-use Rattle.std.specs.Prelude.{ℕ, ◌≡◌, Bool, true, false, not, ◌||◌, cond, [], ◌∷◌}
+use Rattle.std.specs.Prelude.{ℕ, ◌≡◌, Bool, true, false, not, ◌||◌, cond, [], ◌∷◌, Option, None, Some}
+use Rattle.pairs.specs.declared.Pair.{Pair}
 use Rattle.std.proofs.Common.{sym, ap, ◌∙◌, true≢false}
-use Rattle.std.proofs.Math.Option.{Option, none, some}
 use Rattle.time.specs.declared.Dts.{Dts}
-use Rattle.pairs.specs.declared.Known.{Known}
-use Rattle.pairs.specs.declared.Known.TheVariants.{Yes, No}
 use Rattle.pairs.specs.laws.KnownLaws.{is_known}
 use Rattle.node.specs.declared.Phase.{Phase}
 use Rattle.node.specs.declared.Node.{Node}
@@ -18,9 +16,9 @@ use Rattle.acting.specs.Acting.{changed_by, acted}
 use Rattle.acting.specs.laws.ByEvent.{RelayLeft, r-stays, r-told, left_by}
 pub use Rattle.acting.specs.laws.ByEvent.{reports}
 
-abbrev pub status_in : Known → Option ℕ
-status_in (Yes p) = some p.status
-status_in No = none
+abbrev pub status_in : Option Pair → Option ℕ
+status_in (Some p) = Some p.status
+status_in None = None
 
 -- the status that the relay said last, for what it was before the event
 abbrev pub relay_after : Event → Option ℕ → Option ℕ

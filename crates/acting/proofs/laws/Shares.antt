@@ -1,15 +1,13 @@
 -- What an event shares: the status that the relay said last, at the node's own clock or one ahead.
-use Rattle.std.specs.Prelude.{ℕ, ◌+◌, ◌-◌, ◌≤◌, ◌≡◌, Bool, true, false, ◌&&◌, ◌||◌, ◌⊎◌, eqb}
+use Rattle.std.specs.Prelude.{ℕ, ◌+◌, ◌-◌, ◌≤◌, ◌≡◌, Bool, true, false, ◌&&◌, ◌||◌, ◌⊎◌, eqb, Option, None, Some}
 use Rattle.std.proofs.Math.Path.{refl}
 use Rattle.std.proofs.Common.{sym, ap, subst, ◌∙◌, inl, inr, arith, eqb-true, le-leb}
 use Rattle.std.proofs.lemmas.Bool.{false≢true}
 use Rattle.std.proofs.Math.Bool.{and-eq-true_iff}
-use Rattle.std.proofs.Math.Option.{Option, none, some}
 use Rattle.time.specs.declared.Dts.{Dts}
 use Rattle.time.specs.Fresh.{fresh, window, next}
 use Rattle.time.specs.laws.Fresh.{latest_clock, next-is}
 use Rattle.pairs.specs.declared.Pair.{Pair}
-use Rattle.pairs.specs.declared.Known.TheVariants.{Yes}
 use Rattle.pairs.specs.declared.Pairs.{Pairs}
 use Rattle.pairs.specs.declared.Pairs.TheVariants.{Zero, One, Two}
 use Rattle.pairs.specs.Pair.{pair, listed, has}
@@ -33,8 +31,8 @@ AtOwnClock t T = (t.0 ≡ T.0) ⊎ (t.0 + 1 ≡ T.0)
 
 -- the status that the relay said last, if it said one, is of an action
 abbrev pub IsAction : Option ℕ → Type 0
-IsAction none = Unit {0}
-IsAction (some A) = A ≤ 1
+IsAction None = Unit {0}
+IsAction (Some A) = A ≤ 1
 
 -- ---- a status with t alone, or with t and with t + 1
 
@@ -91,17 +89,17 @@ module _ (breaker : Breaker) (p : Phase) (t : Dts) (event : Event) where
   shares_left = (left_by breaker p t event).of_shares
 
   -- r's status is then the one that the relay said last
-  of-relay : (r : Pair) → phase_running p ≡ true → known_r left.phase ≡ Yes r → last ≡ some r.status
+  of-relay : (r : Pair) → phase_running p ≡ true → known_r left.phase ≡ Some r → last ≡ Some r.status
   of-relay r runs is = sym (told-r breaker t p event (runs_up p runs)) ∙ ap status_in is
 
-  pub shares-own : (A : ℕ) (T : Dts) → t.0 ≤ latest_clock → has (listed left.shares) A T ≡ true → (last ≡ some A) × AtOwnClock t T
+  pub shares-own : (A : ℕ) (T : Dts) → t.0 ≤ latest_clock → has (listed left.shares) A T ≡ true → (last ≡ Some A) × AtOwnClock t T
   shares-own A T m h = go shares_left
     where
-      go : SharesLeft p t left → (last ≡ some A) × AtOwnClock t T
+      go : SharesLeft p t left → (last ≡ Some A) × AtOwnClock t T
       go (no-shares zero) = absurd (false≢true (sym (ap (λ (ps : Pairs). has (listed ps) A T) zero) ∙ h))
       go (r-shared r runs is w) =
           let q = own-clock t m r.status left.shares A T w h in
-          (of-relay r runs is ∙ ap some q.0, q.1)
+          (of-relay r runs is ∙ ap Some q.0, q.1)
 
   pub shares-near : t.0 ≤ latest_clock → IsAction last → Near t left.shares
   shares-near m a = go shares_left
@@ -128,5 +126,5 @@ module _ (breaker : Breaker) (node : Node) (i f : ℕ) (t : Dts) (event : Event)
 
   -- Whoever shares (A, T) does so at its own clock T or T − 1, and A is the status reported in this step or, at a timeout, that of r.
   pub shared : (A : ℕ) (T : Dts) → t.0 ≤ latest_clock → has (listed (acted breaker node i f t event).shares) A T ≡ true
-      → (relay_after event (status_in (known_r node.phase)) ≡ some A) × AtOwnClock t T
+      → (relay_after event (status_in (known_r node.phase)) ≡ Some A) × AtOwnClock t T
   shared A T m h = shares-own breaker node.phase t event A T m (rw acted-shares at h)

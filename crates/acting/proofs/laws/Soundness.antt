@@ -1,7 +1,6 @@
 -- What is in its range, as refusal 16 asks it of a record, is so after every event; and the second pair stays no later than b, and known where b is.
-use Rattle.std.specs.Prelude.{ℕ, ◌≤◌, ◌<◌, ◌≡◌, refl, true, List, [], ◌∷◌, leb}
+use Rattle.std.specs.Prelude.{ℕ, ◌≤◌, ◌<◌, ◌≡◌, refl, true, List, [], ◌∷◌, leb, Option, None, Some}
 use Rattle.std.proofs.Common.{sym, ap, subst, ◌∙◌, arith}
-use Rattle.std.proofs.Math.Option.{Option, none, some}
 use borrow.Author.Tests.{le-leb}
 use Rattle.refusals.specs.laws.Bools.{right}
 use Rattle.time.specs.declared.Dts.{Dts}
@@ -12,8 +11,6 @@ use Rattle.store.specs.Store.{empty, store_within}
 use Rattle.store.proofs.laws.HeldLaws.{clock-at}
 use Rattle.store.proofs.laws.WithinLaws.{empty-within, put-within, moved-within}
 use Rattle.pairs.specs.declared.Pair.{Pair}
-use Rattle.pairs.specs.declared.Known.{Known}
-use Rattle.pairs.specs.declared.Known.TheVariants.{Yes, No}
 use Rattle.steps.specs.declared.Event.{Event}
 use Rattle.steps.specs.declared.Event.TheVariants.{Report, Deliver, DeliverPair, ShareTimeout, ResendTimeout, Ack, Query}
 use Rattle.steps.specs.Named.{said_by}
@@ -37,9 +34,9 @@ use Rattle.acting.proofs.laws.Stores.{clock-from}
 
 -- ---- the phase, before the combining rule
 
-acked-sound : (p : Phase) (k : Known) → ((change : Pair) → k ≡ Yes change → stamp_sound change.stamp ≡ true) → SoundPhase p → SoundPhase (acked_by p k).phase
-acked-sound p (Yes change) e s = ack-sound p change (e change refl) s
-acked-sound p No e s = s
+acked-sound : (p : Phase) (k : Option Pair) → ((change : Pair) → k ≡ Some change → stamp_sound change.stamp ≡ true) → SoundPhase p → SoundPhase (acked_by p k).phase
+acked-sound p (Some change) e s = ack-sound p change (e change refl) s
+acked-sound p None e s = s
 
 -- what each event leaves of a phase, one clause an event: a new stamp is the event's clock or comes from the breaker
 pub sound-by : (breaker : Breaker) (p : Phase) (t : Dts) (event : Event) → breaker_sound breaker ≡ true → t.0 ≤ last_held_stamp → SoundPhase p
@@ -56,9 +53,9 @@ sound-by breaker p t Query of-breaker l s = query-sound p breaker.pair (right (l
 
 -- ---- the second pair
 
-acked-follows : (p : Phase) (k : Known) → FollowsIn p → FollowsIn (acked_by p k).phase
-acked-follows p (Yes change) l = ack-follows p change l
-acked-follows p No l = l
+acked-follows : (p : Phase) (k : Option Pair) → FollowsIn p → FollowsIn (acked_by p k).phase
+acked-follows p (Some change) l = ack-follows p change l
+acked-follows p None l = l
 
 -- one clause an event
 pub follows_by : (breaker : Breaker) (p : Phase) (t : Dts) (event : Event) → FollowsIn p → FollowsIn (changed_by breaker p t event).phase
@@ -99,9 +96,9 @@ module _ (s : Store) (n : ℕ) (w : store_within s n ≡ true) where
   each_within sender B (T ∷ more) l = put-within (put_each s sender B more) n (each_within sender B more l) sender B T l
 
   from-within : (sender status : Option ℕ) (stamps : List Dts) → IfNamed sender (λ k. k < n) → store_within (put_from s sender status stamps) n ≡ true
-  from-within (some sender) (some B) stamps l = each_within sender B stamps l
-  from-within (some sender) none stamps l = w
-  from-within none status stamps l = w
+  from-within (Some sender) (Some B) stamps l = each_within sender B stamps l
+  from-within (Some sender) None stamps l = w
+  from-within None status stamps l = w
 
 -- ---- at the end of the event
 
@@ -137,7 +134,7 @@ module _
         ∙ clock-from (store_at node.phase node.store t) (said_by event).sender (said_by event).status (said_by event).stamps))
         (at-clock node.phase node.store t l)
 
-    -- No stamp and no clock is beyond its limit, and every sender is below n: the node itself, and the one that the event names.
+    -- None stamp and no clock is beyond its limit, and every sender is below n: the node itself, and the one that the event names.
     pub acted-in-range : node_in_range (acted breaker node i f t event).node n ≡ true
     unfolding acted finished
     acted-in-range =

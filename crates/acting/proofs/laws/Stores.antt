@@ -1,10 +1,9 @@
 -- What a node's store holds after an event.
-use Rattle.std.specs.Prelude.{ℕ, ◌≤◌, ◌<◌, ◌≡◌, Bool, true, false, not, ◌&&◌, ◌||◌, cond, ◌⊎◌, List, [], ◌∷◌, ◌++◌}
+use Rattle.std.specs.Prelude.{ℕ, ◌≤◌, ◌<◌, ◌≡◌, Bool, true, false, not, ◌&&◌, ◌||◌, cond, ◌⊎◌, List, [], ◌∷◌, ◌++◌, Option, None, Some}
 use Rattle.std.proofs.Math.Path.{refl, ap}
 use Rattle.std.proofs.Common.{sym, subst, ◌∙◌, inl, inr}
 use Rattle.std.proofs.lemmas.Bool.{false≢true}
 use Rattle.std.proofs.Math.Bool.{and-eq-true_iff}
-use Rattle.std.proofs.Math.Option.{Option, none, some}
 use Rattle.std.proofs.Math.Dec.{eqb}
 use Rattle.time.specs.declared.Dts.{Dts}
 use Rattle.time.specs.Fresh.{fresh, fresh_ones}
@@ -67,9 +66,9 @@ module _ (s : Store) where
   clock-each sender B (U ∷ more) = clock-put (put_each s sender B more) sender B U ∙ clock-each sender B more
 
   pub clock-from : (sender status : Option ℕ) (stamps : List Dts) → (put_from s sender status stamps).clock ≡ s.clock
-  clock-from (some sender) (some B) stamps = clock-each sender B stamps
-  clock-from (some sender) none stamps = refl
-  clock-from none status stamps = refl
+  clock-from (Some sender) (Some B) stamps = clock-each sender B stamps
+  clock-from (Some sender) None stamps = refl
+  clock-from None status stamps = refl
 
   module _ (A : ℕ) (T : Dts) (k : ℕ) where
     held-each : (sender B : ℕ) (stamps : List Dts) → sender < room → B ≤ 1
@@ -100,11 +99,11 @@ module _ (s : Store) where
 
     held-from : (sender status : Option ℕ) (stamps : List Dts) → IfNamed sender (λ i. i < room) → IfNamed status (λ B. B ≤ 1)
         → held (put_from s sender status stamps) A T k ≡ (has (delivered_from k sender status (fresh_ones s.clock stamps)) A T || held s A T k)
-    held-from (some sender) (some B) stamps l a =
+    held-from (Some sender) (Some B) stamps l a =
         held-each sender B stamps l a
         ∙ ap (λ (x : Bool). x || held s A T k) (sym (has-cond (eqb k sender) (shares_at B (fresh_ones s.clock stamps)) A T))
-    held-from (some sender) none stamps l a = refl
-    held-from none status stamps l a = refl
+    held-from (Some sender) None stamps l a = refl
+    held-from None status stamps l a = refl
 
 -- the fresh ones are fresh
 module _ (t : Dts) (A : ℕ) (T : Dts) where
@@ -127,11 +126,11 @@ module _ (t : Dts) (A : ℕ) (T : Dts) where
       go false near rest e = rest e
 
   fresh-from : (k : ℕ) (sender status : Option ℕ) (stamps : List Dts) → has (delivered_from k sender status (fresh_ones t stamps)) A T ≡ true → fresh T t ≡ true
-  fresh-from k (some sender) (some B) stamps e =
+  fresh-from k (Some sender) (Some B) stamps e =
       fresh-each B stamps
       ((and-eq-true_iff (eqb k sender) (has (shares_at B (fresh_ones t stamps)) A T)).0 (sym (has-cond (eqb k sender) (shares_at B (fresh_ones t stamps)) A T) ∙ e)).1
-  fresh-from k (some sender) none stamps e = absurd (false≢true e)
-  fresh-from k none status stamps e = absurd (false≢true e)
+  fresh-from k (Some sender) None stamps e = absurd (false≢true e)
+  fresh-from k None status stamps e = absurd (false≢true e)
 
 -- ---- a running node
 
@@ -205,7 +204,7 @@ starting-stored : (breaker : Breaker) (learned : Learned) (s : Store) (t : Dts) 
     → stored (Starting learned) s t event ≡ empty t
 starting-stored breaker learned s t event runs = (left_by breaker (Starting learned) t event).of-store s ∙ go (left_by breaker (Starting learned) t event).unsent-or-kept
   where
-    go : ((said_by event).sender ≡ none) ⊎ ((changed_by breaker (Starting learned) t event).phase ≡ Starting learned)
+    go : ((said_by event).sender ≡ None) ⊎ ((changed_by breaker (Starting learned) t event).phase ≡ Starting learned)
         → put_from (empty t) (said_by event).sender (said_by event).status (said_by event).stamps ≡ empty t
     go (inl unsent) = ap (λ (o : Option ℕ). put_from (empty t) o (said_by event).status (said_by event).stamps) unsent
     go (inr same) = absurd (false≢true (sym (ap phase_running same) ∙ runs))
@@ -235,7 +234,7 @@ module _ (breaker : Breaker) (node : Node) (i f : ℕ) (t : Dts) (event : Event)
       ∙ clock-from (store_at node.phase node.store t) (said_by event).sender (said_by event).status (said_by event).stamps
       ∙ at-clock node.phase up l
 
-pub still-empty : (breaker : Breaker) (learned : Learned) (s : Store) (i f : ℕ) (t : Dts) (event : Event) → (said_by event).sender ≡ none
+pub still-empty : (breaker : Breaker) (learned : Learned) (s : Store) (i f : ℕ) (t : Dts) (event : Event) → (said_by event).sender ≡ None
     → (acted breaker (record { phase = Starting learned; store = s }) i f t event).node.store ≡ empty t
 unfolding acted finished put_all
 still-empty breaker learned s i f t event unsent =

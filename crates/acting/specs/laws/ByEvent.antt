@@ -1,16 +1,13 @@
 -- What each event leaves of a node. `Leaves` is all that is shown of an event, and `left_by` shows it, one clause an event; the laws of the other modules
 -- are of any event and rest on these. A new event is one more clause of `left_by`.
-use Rattle.std.specs.Prelude.{ℕ, ◌≡◌, refl, Bool, true, false, not, cond, ◌⊎◌, List, [], ◌∷◌, leb}
+use Rattle.std.specs.Prelude.{ℕ, ◌≡◌, refl, Bool, true, false, not, cond, ◌⊎◌, List, [], ◌∷◌, leb, Option, None, Some}
 use Rattle.std.proofs.Common.{sym, ap, ◌∙◌, inl, inr}
 use Rattle.std.proofs.lemmas.Bool.{false≢true}
-use Rattle.std.proofs.Math.Option.{Option, none, some}
 use Rattle.time.specs.declared.Dts.{Dts}
 use Rattle.time.specs.Fresh.{next}
 use Rattle.store.specs.declared.Store.{Store}
 use Rattle.store.specs.Store.{put}
 use Rattle.pairs.specs.declared.Pair.{Pair}
-use Rattle.pairs.specs.declared.Known.{Known}
-use Rattle.pairs.specs.declared.Known.TheVariants.{Yes, No}
 use Rattle.pairs.specs.declared.Pairs.TheVariants.{Zero, One, Two}
 use Rattle.pairs.specs.Pair.{pair}
 use Rattle.pairs.specs.laws.KnownLaws.{is_known}
@@ -44,23 +41,23 @@ remembers breaker event = of_named (said_by event).back (λ back. is_known (chan
 
 -- the event is an ack, and this is the change that it brings
 abbrev pub Acked : Breaker → Event → Pair → Type 0
-Acked breaker event p = Of (said_by event).back λ back. change_at breaker back ≡ Yes p
+Acked breaker event p = Of (said_by event).back λ back. change_at breaker back ≡ Some p
 
 -- r: a Report sets its status, and no other event moves it
 pub data RelayLeft (event : Event) (p q : Phase) : Type 0 where
   r-stays : reports event ≡ false → known_r q ≡ known_r p → RelayLeft event p q
-  r-told : reports event ≡ true → (r : Pair) → (said_by event).status ≡ some r.status → (not (phase_down p) ≡ true → known_r q ≡ Yes r) → RelayLeft event p q
+  r-told : reports event ≡ true → (r : Pair) → (said_by event).status ≡ Some r.status → (not (phase_down p) ≡ true → known_r q ≡ Some r) → RelayLeft event p q
 
 -- the event is a resend timeout with the stamp being resent no longer fresh, and this is the second pair
 abbrev pub Returned : Dts → Event → Phase → Pair → Type 0
-Returned t event p b = (is_kind (said_by event).kind resend_timeout ≡ true) × (gives_up t p ≡ true) × (known_second p ≡ Yes b)
+Returned t event p b = (is_kind (said_by event).kind resend_timeout ≡ true) × (gives_up t p ≡ true) × (known_second p ≡ Some b)
 
 -- b: it is known after an ack and after a query; that of a running node is what it was, or the change that an ack brings, or the second pair
 pub data BreakerLeft (breaker : Breaker) (t : Dts) (event : Event) (p q : Phase) : Type 0 where
   b-stays : informs event ≡ false → known_b q ≡ known_b p → BreakerLeft breaker t event p q
   b-learned : informs event ≡ true → (not (phase_down p) ≡ true → remembers breaker event ≡ true → is_known (known_b q) ≡ true)
-      → (phase_running p ≡ true → (b : Pair) → known_b q ≡ Yes b → (known_b p ≡ Yes b) ⊎ Acked breaker event b) → BreakerLeft breaker t event p q
-  b-returns : informs event ≡ false → is_known (known_b q) ≡ is_known (known_b p) → ((b : Pair) → known_b q ≡ Yes b → (known_b p ≡ Yes b) ⊎ Returned t event p b)
+      → (phase_running p ≡ true → (b : Pair) → known_b q ≡ Some b → (known_b p ≡ Some b) ⊎ Acked breaker event b) → BreakerLeft breaker t event p q
+  b-returns : informs event ≡ false → is_known (known_b q) ≡ is_known (known_b p) → ((b : Pair) → known_b q ≡ Some b → (known_b p ≡ Some b) ⊎ Returned t event p b)
       → BreakerLeft breaker t event p q
 
 -- the phase, before the combining rule
@@ -69,10 +66,10 @@ pub record PhaseLeft (breaker : Breaker) (t : Dts) (event : Event) (p q : Phase)
   pub b : BreakerLeft breaker t event p q
   pub goes : GoesOn p q
 
--- the shares: none, or, if the node runs, the status that r has then, with t alone or with t and with t + 1
+-- the shares: None, or, if the node runs, the status that r has then, with t alone or with t and with t + 1
 pub data SharesLeft (p : Phase) (t : Dts) (left : Changed) : Type 0 where
   no-shares : left.shares ≡ Zero → SharesLeft p t left
-  r-shared : (r : Pair) → phase_running p ≡ true → known_r left.phase ≡ Yes r
+  r-shared : (r : Pair) → phase_running p ≡ true → known_r left.phase ≡ Some r
       → (left.shares ≡ One (pair r.status t)) ⊎ (left.shares ≡ Two (pair r.status t) (pair r.status (next t))) → SharesLeft p t left
 
 -- the store, for the sender, the status and the stamps that an event names: a share of each stamp is put
@@ -81,9 +78,9 @@ put_each s sender A [] = s
 put_each s sender A (T ∷ more) = put (put_each s sender A more) sender A T
 
 abbrev pub put_from : Store → Option ℕ → Option ℕ → List Dts → Store
-put_from s (some sender) (some A) stamps = put_each s sender A stamps
-put_from s (some sender) none stamps = s
-put_from s none A stamps = s
+put_from s (Some sender) (Some A) stamps = put_each s sender A stamps
+put_from s (Some sender) None stamps = s
+put_from s None A stamps = s
 
 -- all that is shown of an event
 pub record Leaves (breaker : Breaker) (p : Phase) (t : Dts) (event : Event) (left : Changed) : Type 0 where
@@ -92,7 +89,7 @@ pub record Leaves (breaker : Breaker) (p : Phase) (t : Dts) (event : Event) (lef
   -- what it delivers is put into the store,
   pub of-store : (s : Store) → stored p s t event ≡ put_from (store_at p s t) (said_by event).sender (said_by event).status (said_by event).stamps
   -- and an event that names a sender leaves the phase: no node begins to run by it
-  pub unsent-or-kept : ((said_by event).sender ≡ none) ⊎ (left.phase ≡ p)
+  pub unsent-or-kept : ((said_by event).sender ≡ None) ⊎ (left.phase ≡ p)
 
 -- ---- an event that leaves the phase
 
@@ -135,31 +132,31 @@ module _ (t : Dts) where
 -- ---- Ack and Query: what they leave of b
 
 module _ (breaker : Breaker) (t : Dts) (p : Phase) where
-  ack-left : (back : ℕ) (k : Known) → change_at breaker back ≡ k → PhaseLeft breaker t (Ack back) p (acked_by p k).phase
-  ack-left back (Yes change) is =
+  ack-left : (back : ℕ) (k : Option Pair) → change_at breaker back ≡ k → PhaseLeft breaker t (Ack back) p (acked_by p k).phase
+  ack-left back (Some change) is =
       record {
         r = r-stays refl (ack-r change p);
         b = b-learned refl (λ up known. ap is_known (ack-b change p up)) (λ runs b e. later-one b (known_b p) (sym e ∙ ack-b change p (runs_up p runs)));
         goes = ack-goes change p;
       }
     where
-      later-one : (b : Pair) (k : Known) → Yes b ≡ Yes (later_than k change) → (k ≡ Yes b) ⊎ (change_at breaker back ≡ Yes b)
-      later-one b (Yes old) e = go (leb old.stamp.0 change.stamp.0) e
+      later-one : (b : Pair) (k : Option Pair) → Some b ≡ Some (later_than k change) → (k ≡ Some b) ⊎ (change_at breaker back ≡ Some b)
+      later-one b (Some old) e = go (leb old.stamp.0 change.stamp.0) e
         where
-          go : (x : Bool) → Yes b ≡ Yes (cond x change old) → (Yes old ≡ Yes b) ⊎ (change_at breaker back ≡ Yes b)
+          go : (x : Bool) → Some b ≡ Some (cond x change old) → (Some old ≡ Some b) ⊎ (change_at breaker back ≡ Some b)
           go true e = inr (is ∙ sym e)
           go false e = inl (sym e)
-      later-one b No e = inr (is ∙ sym e)
-  ack-left back No is =
+      later-one b None e = inr (is ∙ sym e)
+  ack-left back None is =
       record {
         r = r-stays refl refl;
         b = b-learned refl (λ up known. absurd (false≢true (sym (ap is_known is) ∙ known))) (λ runs b e. inl e);
         goes = goes_same refl;
       }
 
-  ack-none : (k : Known) → (acked_by p k).shares ≡ Zero
-  ack-none (Yes change) = ack-shares change p
-  ack-none No = refl
+  ack-none : (k : Option Pair) → (acked_by p k).shares ≡ Zero
+  ack-none (Some change) = ack-shares change p
+  ack-none None = refl
 
   query-left : PhaseLeft breaker t Query p (queried p breaker.pair).phase
   query-left =
@@ -194,15 +191,15 @@ module _ (breaker : Breaker) (t : Dts) (p : Phase) where
           go (Starting l) e = absurd (false≢true e)
           go (Running rec) e = refl
 
-      as-known : (x : Bool) (second b : Known) → gives_up t p ≡ x → known_b p ≡ b → is_known (cond x (back_to second b) b) ≡ is_known b
-      as-known true (Yes s) b e is = sym (ap is_known (sym is) ∙ runs e)
-      as-known true No b e is = refl
+      as-known : (x : Bool) (second b : Option Pair) → gives_up t p ≡ x → known_b p ≡ b → is_known (cond x (back_to second b) b) ≡ is_known b
+      as-known true (Some s) b e is = sym (ap is_known (sym is) ∙ runs e)
+      as-known true None b e is = refl
       as-known false second b e is = refl
 
-      one : (b : Pair) (x : Bool) (second : Known) → gives_up t p ≡ x → known_second p ≡ second → cond x (back_to second (known_b p)) (known_b p) ≡ Yes b
-          → (known_b p ≡ Yes b) ⊎ Returned t ResendTimeout p b
-      one b true (Yes s) up is e = inr (refl, up, is ∙ e)
-      one b true No up is e = inl e
+      one : (b : Pair) (x : Bool) (second : Option Pair) → gives_up t p ≡ x → known_second p ≡ second → cond x (back_to second (known_b p)) (known_b p) ≡ Some b
+          → (known_b p ≡ Some b) ⊎ Returned t ResendTimeout p b
+      one b true (Some s) up is e = inr (refl, up, is ∙ e)
+      one b true None up is e = inl e
       one b false second up is e = inl e
 
 -- ---- every event

@@ -1,13 +1,12 @@
 -- A Report to its end. §1 of 02: "a report at a node that knows b stamps r with the larger of t and b's stamp, so no report ends in Wait. Shares still carry
 -- t and t+1."
-use Rattle.std.specs.Prelude.{ℕ, ◌≡◌, refl, true, false, not, cond}
+use Rattle.std.specs.Prelude.{ℕ, ◌≡◌, refl, true, false, not, cond, Some, None}
 use Rattle.std.proofs.Common.{sym, subst, ◌∙◌}
 use Rattle.time.specs.declared.Dts.{Dts}
 use Rattle.time.specs.Fresh.{next}
 use Rattle.time.specs.Larger.{larger}
 use Rattle.store.specs.declared.Store.{Store}
 use Rattle.pairs.specs.declared.Pair.{Pair}
-use Rattle.pairs.specs.declared.Known.TheVariants.{Yes, No}
 use Rattle.pairs.specs.declared.Pairs.TheVariants.{Zero, Two}
 use Rattle.pairs.specs.Pair.{pair}
 use Rattle.node.specs.declared.Record.{Record}
@@ -30,7 +29,7 @@ RunsUnwaiting A t b p = (rec : Record) × (p ≡ Running rec) × (rec.r ≡ pair
 
 module _ (breaker : Breaker) (node : Node) (i f : ℕ) (t : Dts) (A number : ℕ) where
   -- A report at a node that knows b leaves it running and not in Wait.
-  pub report-unwaiting : (b : Pair) → known_b node.phase ≡ Yes b → RunsUnwaiting A t b (acted breaker node i f t (Report A number)).node.phase
+  pub report-unwaiting : (b : Pair) → known_b node.phase ≡ Some b → RunsUnwaiting A t b (acted breaker node i f t (Report A number)).node.phase
   unfolding acted finished changed_by
   report-unwaiting b e = go (report-knowing t A number node.phase b e)
     where
@@ -46,7 +45,7 @@ module _ (breaker : Breaker) (node : Node) (i f : ℕ) (t : Dts) (A number : ℕ
           (_, refl, combined-r rec own f ∙ r, combined-no-wait rec own f (rw (r, same) (stamped-no-wait A t b)))
 
   -- One at a node that knows no b leaves it starting up, with r stamped t as in 01.
-  pub report-told : not (phase_down node.phase) ≡ true → known_b node.phase ≡ No → Told A t (acted breaker node i f t (Report A number)).node.phase
+  pub report-told : not (phase_down node.phase) ≡ true → known_b node.phase ≡ None → Told A t (acted breaker node i f t (Report A number)).node.phase
   unfolding acted finished changed_by
   report-told up e = go (report-unknowing t A number node.phase up e)
     where

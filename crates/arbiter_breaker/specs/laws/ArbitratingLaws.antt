@@ -1,5 +1,5 @@
 -- What an accepted message leaves: where it changes the breaker, and where it does not.
-use Rattle.std.specs.Prelude.{ℕ, ◌+◌, ◌^◌, ◌≤◌, ◌<◌, ◌≡◌, Bool, ◌&&◌, ◌||◌, cond, ◌⊎◌}
+use Rattle.std.specs.Prelude.{ℕ, ◌+◌, ◌^◌, ◌≤◌, ◌<◌, ◌≡◌, Bool, ◌&&◌, ◌||◌, cond, ◌⊎◌, Some, None}
 use Rattle.std.proofs.Math.Path.{refl, ap}
 use Rattle.std.proofs.Common.{sym, ◌∙◌}
 use Rattle.std.proofs.Math.Bool.{true, false}
@@ -20,7 +20,6 @@ use Rattle.store.proofs.laws.Held.{held_moved, clock-put}
 use Rattle.store.proofs.laws.HeldLaws.{takes-near, held-taken, clock-at}
 use Rattle.pooling.specs.declared.Pool.{Pool}
 use Rattle.pooling.proofs.laws.PoolLaws.{pooled-from, not-later, latest-held}
-use Rattle.pairs.specs.declared.Known.TheVariants.{Yes, No}
 use Rattle.breaker.specs.declared.Breaker.{Breaker}
 use Rattle.breaker.specs.Breaker.{answered, changed}
 use Rattle.arbiter_steps.specs.declared.Message.{Message}
@@ -61,11 +60,11 @@ module _ (breaker : Breaker) (messages : Store) (f : ℕ) (t : Dts) where
   moves = enough (asking breaker messages).senders f
 
   pub when-moved : moves ≡ true
-      → decided breaker messages f t ≡ record { breaker = changed_by breaker messages t; held = messages; ack = Yes (changed_by breaker messages t).pair }
+      → decided breaker messages f t ≡ record { breaker = changed_by breaker messages t; held = messages; ack = Some (changed_by breaker messages t).pair }
   unfolding decided
   when-moved e = simp e
 
-  pub when-unmoved : moves ≡ false → decided breaker messages f t ≡ record { breaker = answered breaker t; held = messages; ack = No }
+  pub when-unmoved : moves ≡ false → decided breaker messages f t ≡ record { breaker = answered breaker t; held = messages; ack = None }
   unfolding decided
   when-unmoved e = simp e
 
@@ -75,12 +74,12 @@ module _ (breaker : Breaker) (messages : Store) (f : ℕ) (t : Dts) where
     test-is x e = ap (λ (p : Pool). enough p.senders f) (sym whole) ∙ e
 
     pub moved_by : enough pool.senders f ≡ true → (after : Breaker) → after ≡ changed_by breaker messages t
-        → record { breaker = after; held = messages; ack = Yes after.pair } ≡ decided breaker messages f t
-    moved_by e after done = ap (λ (x : Breaker). record { breaker = x; held = messages; ack = Yes x.pair }) done ∙ sym (when-moved (test-is true e))
+        → record { breaker = after; held = messages; ack = Some after.pair } ≡ decided breaker messages f t
+    moved_by e after done = ap (λ (x : Breaker). record { breaker = x; held = messages; ack = Some x.pair }) done ∙ sym (when-moved (test-is true e))
 
     pub unmoved-by : enough pool.senders f ≡ false → (after : Breaker) → after ≡ answered breaker t
-        → record { breaker = after; held = messages; ack = No } ≡ decided breaker messages f t
-    unmoved-by e after done = ap (λ (x : Breaker). record { breaker = x; held = messages; ack = No }) done ∙ sym (when-unmoved (test-is false e))
+        → record { breaker = after; held = messages; ack = None } ≡ decided breaker messages f t
+    unmoved-by e after done = ap (λ (x : Breaker). record { breaker = x; held = messages; ack = None }) done ∙ sym (when-unmoved (test-is false e))
 
   -- ---- the pair of a change
 

@@ -1,11 +1,12 @@
 -- What each row's test tells, and so which number a step is answered with.
-use Rattle.std.specs.Prelude.{ℕ, ◌≤◌, ◌<◌, ◌≡◌, Bool, not, ◌&&◌, cond, ◌↔◌, ◌⊎◌}
+use Rattle.std.specs.Prelude.{ℕ, ◌≤◌, ◌<◌, ◌≡◌, Bool, not, ◌&&◌, ◌↔◌, ◌⊎◌, Result, Ok, Err}
 use Rattle.std.proofs.Math.Path.{refl}
-use Rattle.std.proofs.Common.{sym, ap, ◌∙◌, true≢false, eqb-true}
+use Rattle.std.proofs.Common.{sym, ap, ◌∙◌, true≢false}
 use Rattle.std.proofs.Math.Bool.{true, false}
 use Rattle.std.proofs.Math.Logic.{inl, inr}
-use Rattle.std.proofs.Math.Dec.{eqb}
-use Rattle.refusals.specs.Tests.{refusal, test_at}
+use Rattle.refusals.specs.declared.Refusal.{Refusal}
+use Rattle.refusals.specs.declared.Refusal.TheVariants.{Unsound}
+use Rattle.refusals.specs.Tests.{number_in, refusal, test_at}
 use Rattle.refusals.specs.laws.Bools.{and_assoc, and-true}
 use Rattle.time.specs.declared.Dts.{Dts}
 use Rattle.time.specs.Limits.{last_held_stamp, last_held_clock, clock_sound}
@@ -35,8 +36,8 @@ use Rattle.arbiter_node.specs.laws.VoterLaws.{sound-in-range}
 use Rattle.arbiter_site.specs.declared.Arbiter.{Arbiter}
 use Rattle.arbiter_site.specs.Site.{arbiter_sound}
 use Rattle.arbiter_site.specs.Tests.{table_for, tests_of}
-use Rattle.arbiter_site.specs.Effects.{refused, effect_of}
-use Rattle.arbiter_site.specs.Steps.{stepped}
+use Rattle.arbiter_site.specs.Effects.{effect_of}
+use Rattle.arbiter_site.specs.Steps.{decided, stepped}
 use Rattle.arbiter_site.specs.laws.StepLaws.{effect-done}
 use Rattle.arbiter_rows.specs.Conditions.{PhaseTooLate, refusal_table}
 use Rattle.arbiter_rows.specs.Rows as R
@@ -88,17 +89,14 @@ module _ (a : Arbiter) (lent : ℕ) (voter : Voter) (step : Step) where
   abbrev pub answered_with : ℕ
   answered_with = R.answered_with a lent voter step
 
-  -- it is the refusal of the step's tests
-  answered-is : answered_with ≡ refusal (table_for a lent voter (named step))
+  -- it is that of the refusal of the step's tests
+  answered-is : answered_with ≡ number_in (refusal (table_for a lent voter (named step)))
   unfolding stepped tests_of
   answered-is = go (refusal (table_for a lent voter (named step)))
     where
-      go : (number : ℕ) → number_of (cond (eqb number 0) (effect_of a voter step) (refused number a voter)).answer ≡ number
-      go number = by (eqb number 0) refl
-        where
-          by : (zero : Bool) → eqb number 0 ≡ zero → number_of (cond zero (effect_of a voter step) (refused number a voter)).answer ≡ number
-          by true e = rw (done-number (effect_of a voter step).answer (effect-done a voter step)) (sym (eqb-true number 0 e))
-          by false e = refl
+      go : (answer : Result (Unit {0}) Refusal) → number_of (decided answer (effect_of a voter step) a voter).answer ≡ number_in answer
+      go (Ok done) = done-number (effect_of a voter step).answer (effect-done a voter step)
+      go (Err fault) = refl
 
   -- every row's test tells the row's condition
   rows_tell : Tell (table_for a lent voter (named step)) (refusal_table a lent voter (named step))
@@ -106,7 +104,7 @@ module _ (a : Arbiter) (lent : ℕ) (voter : Voter) (step : Step) where
   rows_tell =
       let the = named step in
       let site = a.site in
-      also 16
+      also Unsound
       (no_start the.beginning
       (spelled (and_assoc (site_sound site lent && clock_sound a.held.clock) (store_within a.held (n site)) _ ∙ and_assoc (site_sound site lent) (clock_sound a.held.clock) _)
       (site-tells site lent (in_peer voter) the

@@ -1,5 +1,5 @@
 -- What the breaker of a site keeps of the history: a step elsewhere leaves it, and a message moves it as it should.
-use Rattle.std.specs.Prelude.{ℕ, ◌+◌, ◌^◌, ◌≤◌, ◌<◌, ◌≡◌, Bool, false, ◌&&◌, ◌||◌, cond, ◌⊎◌, List, [], ◌∷◌, ◌++◌, eqb}
+use Rattle.std.specs.Prelude.{ℕ, ◌+◌, ◌^◌, ◌≤◌, ◌<◌, ◌≡◌, Bool, false, ◌&&◌, ◌||◌, cond, ◌⊎◌, List, [], ◌∷◌, ◌++◌, eqb, Option, None, Some}
 use Rattle.std.proofs.Math.Path.{refl, ap, subst}
 use Rattle.std.proofs.Common.{sym, ap₂, ◌∙◌, inl, inr, le_refl, arith}
 use Rattle.std.proofs.Math.Bool.{true, and-eq-true_iff}
@@ -20,8 +20,6 @@ use Rattle.store.proofs.laws.HeldLaws.{clock-at}
 use Rattle.pooling.specs.Pooling.{pooled}
 use Rattle.pooling.proofs.laws.PoolLaws.{pooled-from}
 use Rattle.pairs.specs.declared.Pair.{Pair}
-use Rattle.pairs.specs.declared.Known.{Known}
-use Rattle.pairs.specs.declared.Known.TheVariants.{Yes, No}
 use Rattle.pairs.specs.declared.Pairs.TheVariants.{Zero}
 use Rattle.pairs.specs.Pair.{pair, has}
 use Rattle.pairs.specs.laws.KnownLaws.{none-known}
@@ -111,14 +109,14 @@ module _ (b : Beginning) (steps : List Accepted) (a : Arbiter) (before : Holds b
     (made : (i A : ℕ) (T : Dts) → held a.site.made A T i ≡ true → Earlier (SentIt i A T) steps)
     (number : ℕ) (t : Dts) (m : Message) (h : Heard a t m) where
   -- the step, with the ack that was sent
-  abbrev said : Known → Accepted
+  abbrev said : Option Pair → Accepted
   said ack = done_with number (AtBreaker t m) (record { shares = Zero; commands = Zero; ack = ack })
 
   abbrev messages : Store
   messages = received a.held t m
 
   -- what was delivered, with this message: it, or something before it
-  more : (i A : ℕ) (T : Dts) (ack : Known) → has (deliveries i (said ack ∷ steps)) A T
+  more : (i A : ℕ) (T : Dts) (ack : Option Pair) → has (deliveries i (said ack ∷ steps)) A T
       ≡ (eqb i m.sender && ((eqb A m.status && eqb T.0 m.stamp.0) || false) || has (deliveries i steps) A T)
   more i A T ack =
       has-append (cond (eqb i m.sender) (pair m.status m.stamp ∷ []) []) (deliveries i steps) A T
@@ -127,7 +125,7 @@ module _ (b : Beginning) (steps : List Accepted) (a : Arbiter) (before : Holds b
   abbrev IsIt : ℕ → ℕ → Dts → Type 0
   IsIt i A T = (i ≡ m.sender) × (A ≡ m.status) × (T ≡ m.stamp)
 
-  it-or-before : (i A : ℕ) (T : Dts) (ack : Known) → has (deliveries i (said ack ∷ steps)) A T ≡ true → IsIt i A T ⊎ (has (deliveries i steps) A T ≡ true)
+  it-or-before : (i A : ℕ) (T : Dts) (ack : Option Pair) → has (deliveries i (said ack ∷ steps)) A T ≡ true → IsIt i A T ⊎ (has (deliveries i steps) A T ≡ true)
   it-or-before i A T ack e =
       go (eqb i m.sender) (eqb A m.status) (eqb T.0 m.stamp.0) (has (deliveries i steps) A T) refl refl refl (sym (more i A T ack) ∙ e)
     where
@@ -145,7 +143,7 @@ module _ (b : Beginning) (steps : List Accepted) (a : Arbiter) (before : Holds b
   messages-clock = received-clock a.held t m onward
 
   -- what is held then is what was delivered, as far as it is fresh
-  pub holding-now : (ack : Known) (i A : ℕ) (T : Dts) → held messages A T i ≡ held_told (said ack ∷ steps) t A T i
+  pub holding-now : (ack : Option Pair) (i A : ℕ) (T : Dts) → held messages A T i ≡ held_told (said ack ∷ steps) t A T i
   holding-now ack i A T =
       received-held a.held t m onward h.has_room h.is-status h.is-fresh A T i
       ∙ ap (λ (x : Bool). eqb A m.status && eqb T.0 m.stamp.0 && eqb i m.sender || x)
@@ -163,7 +161,7 @@ module _ (b : Beginning) (steps : List Accepted) (a : Arbiter) (before : Holds b
       tidy false z true w f so = refl
       tidy false z false w f so = refl
 
-  soon-now : (ack : Known) (i A : ℕ) (T : Dts) → has (deliveries i (said ack ∷ steps)) A T ≡ true → T.0 ≤ t.0 + window
+  soon-now : (ack : Option Pair) (i A : ℕ) (T : Dts) → has (deliveries i (said ack ∷ steps)) A T ≡ true → T.0 ≤ t.0 + window
   soon-now ack i A T e = go (it-or-before i A T ack e)
     where
       go : IsIt i A T ⊎ (has (deliveries i steps) A T ≡ true) → T.0 ≤ t.0 + window
@@ -173,7 +171,7 @@ module _ (b : Beginning) (steps : List Accepted) (a : Arbiter) (before : Holds b
           let up : (breaker_clock b steps).0 ≤ t.0 = subst (λ (d : Dts). d.0 ≤ t.0) before.clock h.not_back in
           omega (arith, old, up)
 
-  below-now : (ack : Known) (i A : ℕ) (T : Dts) → has (deliveries i (said ack ∷ steps)) A T ≡ true → i < nodes b.f b.k
+  below-now : (ack : Option Pair) (i A : ℕ) (T : Dts) → has (deliveries i (said ack ∷ steps)) A T ≡ true → i < nodes b.f b.k
   below-now ack i A T e = go (it-or-before i A T ack e)
     where
       go : IsIt i A T ⊎ (has (deliveries i steps) A T ≡ true) → i < nodes b.f b.k
@@ -181,7 +179,7 @@ module _ (b : Beginning) (steps : List Accepted) (a : Arbiter) (before : Holds b
       go (inr e) = before.below i A T e
 
   -- a correct sender's was sent, earlier than this message came
-  vouched-now : (ack : Known) (i A : ℕ) (T : Dts) → has (deliveries i (said ack ∷ steps)) A T ≡ true → is_in b.compromised i ≡ false → Earlier (SentIt i A T) steps
+  vouched-now : (ack : Option Pair) (i A : ℕ) (T : Dts) → has (deliveries i (said ack ∷ steps)) A T ≡ true → is_in b.compromised i ≡ false → Earlier (SentIt i A T) steps
   vouched-now ack i A T e c = go (it-or-before i A T ack e)
     where
       is_made : (x : Bool) → is_in a.site.compromised m.sender ≡ x → (x || held a.site.made m.status m.stamp m.sender) ≡ true → x ≡ false
@@ -212,18 +210,18 @@ module _ (b : Beginning) (steps : List Accepted) (a : Arbiter) (before : Holds b
   bound-is : now-breaker.pair.stamp ≡ had.stamp
   bound-is = ap (λ (p : Pair). p.stamp) before.has-pair
 
-  held-fresh-told : (ack : Known) (A : ℕ) (T : Dts) (i : ℕ) → held_told (said ack ∷ steps) t A T i ≡ true → (has (deliveries i (said ack ∷ steps)) A T ≡ true) × (fresh T t ≡ true)
+  held-fresh-told : (ack : Option Pair) (A : ℕ) (T : Dts) (i : ℕ) → held_told (said ack ∷ steps) t A T i ≡ true → (has (deliveries i (said ack ∷ steps)) A T ≡ true) × (fresh T t ≡ true)
   held-fresh-told ack A T i e = (and-eq-true_iff (has (deliveries i (said ack ∷ steps)) A T) (fresh T t)).0 e
 
   -- the pool has as many as the history counts
-  pool-size : (ack : Known) → size (asking now-breaker messages).senders ≡ count_below (nodes b.f b.k) (is_counted b steps (said ack) t)
+  pool-size : (ack : Option Pair) → size (asking now-breaker messages).senders ≡ count_below (nodes b.f b.k) (is_counted b steps (said ack) t)
   pool-size ack =
       ap₂ (λ (A : ℕ) (S : Dts). size (pooled messages A S).senders) action-is bound-is
       ∙ as_many messages (wanted b steps) had.stamp t (λ T i. held_told (said ack ∷ steps) t (wanted b steps) T i) h.not_late
       (λ T i. holding-now ack i (wanted b steps) T) (λ T i e. (held-fresh-told ack (wanted b steps) T i e).1) (nodes b.f b.k) few-nodes
       (λ T i e. below-now ack i (wanted b steps) T (held-fresh-told ack (wanted b steps) T i e).0)
 
-  counted-held : (ack : Known) (i : ℕ) (T : Dts) → CountedAt b steps (said ack) t i T
+  counted-held : (ack : Option Pair) (i : ℕ) (T : Dts) → CountedAt b steps (said ack) t i T
       → (i < room) × (now-breaker.pair.stamp.0 < T.0) × (T.0 < 2 ^ 32) × (held messages (other now-breaker.pair.status) T i ≡ true)
   counted-held ack i T c =
       let parts = held-fresh-told ack (wanted b steps) T i c.1 in
@@ -236,7 +234,7 @@ module _ (b : Beginning) (steps : List Accepted) (a : Arbiter) (before : Holds b
         ap (λ (A : ℕ). held messages A T i) action-is ∙ holding-now ack i (wanted b steps) T ∙ c.1,
       )
 
-  held-counted : (ack : Known) (i : ℕ) (T : Dts) → now-breaker.pair.stamp.0 < T.0 → held messages (other now-breaker.pair.status) T i ≡ true
+  held-counted : (ack : Option Pair) (i : ℕ) (T : Dts) → now-breaker.pair.stamp.0 < T.0 → held messages (other now-breaker.pair.status) T i ≡ true
       → CountedAt b steps (said ack) t i T
   held-counted ack i T up e = (
     subst (λ (S : Dts). S.0 < T.0) bound-is up,
@@ -257,30 +255,30 @@ module _ (b : Beginning) (steps : List Accepted) (a : Arbiter) (before : Holds b
   abbrev moving : Bool
   moving = moves now-breaker messages a.site.f t
 
-  enough-told : (ack : Known) → moving ≡ true → Enough b steps (said ack) t
+  enough-told : (ack : Option Pair) → moving ≡ true → Enough b steps (said ack) t
   enough-told ack e =
       let many = leb-true (a.site.f + 1) (size (asking now-breaker messages).senders) e in
       let same = pool-size ack in
       let f-is = same-f in
       omega (arith, many, same, f-is)
 
-  largest : IsLargest b steps (said (Yes pair_then)) t stamp_then
+  largest : IsLargest b steps (said (Some pair_then)) t stamp_then
   largest =
       record {
         not-before = not-before now-breaker messages a.site.f t;
         not-below = λ i T c.
-            let q = counted-held (Yes pair_then) i T c in
+            let q = counted-held (Some pair_then) i T c in
             not-below now-breaker messages a.site.f t T i q.0 q.1 q.2 q.3;
         one-of-them = one (one-of-them now-breaker messages a.site.f t);
       }
     where
       one : (stamp_then ≡ t) ⊎ ((i : ℕ) × (i < room) × (now-breaker.pair.stamp.0 < stamp_then.0) × (held messages (other now-breaker.pair.status) stamp_then i ≡ true))
-          → (stamp_then ≡ t) ⊎ ((i : ℕ) × CountedAt b steps (said (Yes pair_then)) t i stamp_then)
+          → (stamp_then ≡ t) ⊎ ((i : ℕ) × CountedAt b steps (said (Some pair_then)) t i stamp_then)
       one (inl e) = inl e
-      one (inr r) = inr (r.0, held-counted (Yes pair_then) r.0 stamp_then r.2 r.3)
+      one (inr r) = inr (r.0, held-counted (Some pair_then) r.0 stamp_then r.2 r.3)
 
   abbrev change_then : Change
-  change_then = record { at = said (Yes pair_then); clock = t; action = pair_then.status; stamp = stamp_then; before = steps }
+  change_then = record { at = said (Some pair_then); clock = t; action = pair_then.status; stamp = stamp_then; before = steps }
 
   -- the pigeonhole: of more than f senders counted one is correct
   one-correct : moving ≡ true → SentByACorrectOne b change_then
@@ -292,22 +290,22 @@ module _ (b : Beginning) (steps : List Accepted) (a : Arbiter) (before : Holds b
       let most = count-more (nodes b.f b.k) room (is_in b.compromised) few-nodes in
       let found = some-outside (nodes b.f b.k) (asking now-breaker messages).senders b.compromised b.f few-nodes in-pool-below (omega (arith, many, f-is)) (omega (arith, least, most, few)) in
       let from = pooled-from messages (other now-breaker.pair.status) now-breaker.pair.stamp found.0 found.2 in
-      let counted = held-counted (Yes pair_then) found.0 from.0 from.1 from.2 in
-      let parts = held-fresh-told (Yes pair_then) (wanted b steps) from.0 found.0 counted.1 in (
+      let counted = held-counted (Some pair_then) found.0 from.0 from.1 from.2 in
+      let parts = held-fresh-told (Some pair_then) (wanted b steps) from.0 found.0 counted.1 in (
         found.0,
         (found.1, found.3),
         (
           from.0,
           counted,
-          subst (λ (A : ℕ). Earlier (SentIt found.0 A from.0) steps) (sym (other-action now-breaker messages a.site.f t ∙ action-is)) (vouched-now (Yes pair_then) found.0 (wanted b steps) from.0 parts.0 found.3),
+          subst (λ (A : ℕ). Earlier (SentIt found.0 A from.0) steps) (sym (other-action now-breaker messages a.site.f t ∙ action-is)) (vouched-now (Some pair_then) found.0 (wanted b steps) from.0 parts.0 found.3),
         ),
       )
     where
       in-pool-below : (i : ℕ) → is_in (asking now-breaker messages).senders i ≡ true → i < nodes b.f b.k
       in-pool-below i e =
           let from = pooled-from messages (other now-breaker.pair.status) now-breaker.pair.stamp i e in
-          let counted = held-counted (Yes pair_then) i from.0 from.1 from.2 in
-          below-now (Yes pair_then) i (wanted b steps) from.0 (held-fresh-told (Yes pair_then) (wanted b steps) from.0 i counted.1).0
+          let counted = held-counted (Some pair_then) i from.0 from.1 from.2 in
+          below-now (Some pair_then) i (wanted b steps) from.0 (held-fresh-told (Some pair_then) (wanted b steps) from.0 i counted.1).0
 
   -- ---- the two ends of a message
 
@@ -321,7 +319,7 @@ module _ (b : Beginning) (steps : List Accepted) (a : Arbiter) (before : Holds b
   each-so P Q so [] h = tt
   each-so P Q so (c ∷ rest) h = (so c h.0, each-so P Q so rest h.1)
 
-  moved_holds : moving ≡ true → Holds b (said (Yes pair_then) ∷ steps) (site_with afterwards)
+  moved_holds : moving ≡ true → Holds b (said (Some pair_then) ∷ steps) (site_with afterwards)
   unfolding changed
   moved_holds e =
       let up : had.stamp.0 < stamp_then.0 = subst (λ (S : Dts). S.0 < stamp_then.0) bound-is (rises now-breaker messages a.site.f t e) in
@@ -329,35 +327,35 @@ module _ (b : Beginning) (steps : List Accepted) (a : Arbiter) (before : Holds b
         clock = refl;
         now = messages-clock;
         has-pair = refl;
-        holding = λ i A T. holding-now (Yes pair_then) i A T;
-        soon = soon-now (Yes pair_then);
-        below = below-now (Yes pair_then);
-        vouched = λ i A T x c. further (vouched-now (Yes pair_then) i A T x c);
+        holding = λ i A T. holding-now (Some pair_then) i A T;
+        soon = soon-now (Some pair_then);
+        below = below-now (Some pair_then);
+        vouched = λ i A T x c. further (vouched-now (Some pair_then) i A T x c);
         correct-one = (one-correct e, before.correct-one);
         above = (up, before.above);
         rising = (each-so (NotAbove had.stamp) (λ d. d.stamp.0 < stamp_then.0) (λ c l. omega (arith, l, up)) (changes_in steps) before.not-above, before.rising);
         not-above = (le_refl stamp_then.0, each-so (NotAbove had.stamp) (NotAbove stamp_then) (λ c l. omega (arith, l, up)) (changes_in steps) before.not-above);
         at_once = (
           record {
-            at_once = λ enough. (stamp_then, ap (λ (A : ℕ). Yes (pair A stamp_then)) (other-action now-breaker messages a.site.f t ∙ action-is), largest);
-            no_other = λ p is. enough-told (Yes pair_then) e;
+            at_once = λ enough. (stamp_then, ap (λ (A : ℕ). Some (pair A stamp_then)) (other-action now-breaker messages a.site.f t ∙ action-is), largest);
+            no_other = λ p is. enough-told (Some pair_then) e;
           },
           before.at_once,
         );
         no-command = (refl, before.no-command);
       }
 
-  unmoved-holds : moving ≡ false → Holds b (said No ∷ steps) (site_with (answered now-breaker t))
+  unmoved-holds : moving ≡ false → Holds b (said None ∷ steps) (site_with (answered now-breaker t))
   unfolding answered
   unmoved-holds e =
       record {
         clock = refl;
         now = messages-clock;
         has-pair = before.has-pair;
-        holding = λ i A T. holding-now No i A T;
-        soon = soon-now No;
-        below = below-now No;
-        vouched = λ i A T x c. further (vouched-now No i A T x c);
+        holding = λ i A T. holding-now None i A T;
+        soon = soon-now None;
+        below = below-now None;
+        vouched = λ i A T x c. further (vouched-now None i A T x c);
         correct-one = before.correct-one;
         above = before.above;
         rising = before.rising;
@@ -366,10 +364,10 @@ module _ (b : Beginning) (steps : List Accepted) (a : Arbiter) (before : Holds b
         no-command = (refl, before.no-command);
       }
     where
-      too_few : Enough b steps (said No) t → ⊥
+      too_few : Enough b steps (said None) t → ⊥
       too_few enough =
           let less = leb-false (a.site.f + 1) (size (asking now-breaker messages).senders) e in
-          let same = pool-size No in
+          let same = pool-size None in
           let f-is = same-f in
           omega (arith, less, same, f-is, enough)
 

@@ -1,11 +1,9 @@
 -- What a site and its table keep of the history, step by step, and so over every sequence.
-use Rattle.std.specs.Prelude.{ℕ, ◌≤◌, ◌<◌, ◌≡◌, Bool, true, false, cond, ◌⊎◌, eqb, length, set, drop}
+use Rattle.std.specs.Prelude.{ℕ, ◌≤◌, ◌<◌, ◌≡◌, Bool, true, false, cond, ◌⊎◌, eqb, length, set, drop, Option, None, Some, unwrap_or}
 use Rattle.std.proofs.Math.Path.{refl, sym, subst}
 use Rattle.std.proofs.Common.{ap, ap₂, ◌∙◌, inl, inr, arith, get_or-set_same, get_or-set_other, eqb-true, eq-eqb}
 use Rattle.std.proofs.lemmas.Bool.{false≢true, eqb-false}
 use mathlib.Core.List.{List, [], ◌∷◌}
-use Rattle.std.proofs.Math.Option
-use Rattle.std.proofs.Math.Option.{Option, none, some}
 use Rattle.std.proofs.Math.ListN.{get_or}
 use Rattle.refusals.specs.laws.Bools.{right}
 use Rattle.time.specs.declared.Dts.{Dts}
@@ -14,8 +12,6 @@ use Rattle.senders.specs.Masks.{room, is_in, size}
 use Rattle.store.specs.Store.{empty, moved_to}
 use Rattle.store.specs.Held.{held}
 use Rattle.store.proofs.laws.Held.{held-empty, held_moved}
-use Rattle.pairs.specs.declared.Known.{Known}
-use Rattle.pairs.specs.declared.Known.TheVariants.{Yes, No}
 use Rattle.pairs.specs.declared.Pair.{Pair}
 use Rattle.pairs.specs.declared.Pairs.TheVariants.{Zero}
 use Rattle.pairs.specs.Pair.{listed, listed_known, has}
@@ -61,18 +57,18 @@ abbrev said_in : Voter → Option ℕ
 said_in voter = status_in (known_r (phase_in_peer voter.phase))
 
 there : {A : Type 0} → Option A → Bool
-there none = false
-there (some a) = true
+there None = false
+there (Some a) = true
 
-none_said : {A : ℕ} → none ≡ some A → ⊥
+none_said : {A : ℕ} → None ≡ Some A → ⊥
 unfolding there
 none_said e = false≢true (ap there e)
 
-down-silent : (A : ℕ) → said_in down_voter ≡ some A → ⊥
+down-silent : (A : ℕ) → said_in down_voter ≡ Some A → ⊥
 unfolding went_down
 down-silent A e = none_said e
 
-up-silent : (A : ℕ) → said_in (of_peer went_up) ≡ some A → ⊥
+up-silent : (A : ℕ) → said_in (of_peer went_up) ≡ Some A → ⊥
 unfolding went_up
 up-silent A e = none_said e
 
@@ -87,7 +83,7 @@ pub record Keeps (b : Beginning) (steps : List Accepted) (a : Arbiter) (records 
   pub same-k : a.site.k ≡ b.k
   pub same_set : a.site.compromised ≡ b.compromised
   pub made : (i A : ℕ) (T : Dts) → held a.site.made A T i ≡ true → Earlier (SentIt i A T) steps
-  pub relay : (j : ℕ) → Correct b j → (A : ℕ) → said_in (get_or records j down_voter) ≡ some A → last_report (at_node j steps) ≡ some A
+  pub relay : (j : ℕ) → Correct b j → (A : ℕ) → said_in (get_or records j down_voter) ≡ Some A → last_report (at_node j steps) ≡ Some A
   pub holds : Holds b steps a
 
 -- ---- Start
@@ -154,25 +150,25 @@ module _ (b : Beginning) (steps : List Accepted) (a : Arbiter) (records : List V
 
   -- a step at node i that leaves it so: what it said last is its last report
   at-node : (i : ℕ) (x : Accepted) (voter : Voter) → ((j : ℕ) → is_at j x ≡ eqb i j) → i < length records → Correct b i
-      → ((A : ℕ) → said_in voter ≡ some A → last_report (x ∷ at_node i steps) ≡ some A)
-      → (j : ℕ) → Correct b j → (A : ℕ) → said_in (get_or (set records i voter) j down_voter) ≡ some A → last_report (at_node j (x ∷ steps)) ≡ some A
+      → ((A : ℕ) → said_in voter ≡ Some A → last_report (x ∷ at_node i steps) ≡ Some A)
+      → (j : ℕ) → Correct b j → (A : ℕ) → said_in (get_or (set records i voter) j down_voter) ≡ Some A → last_report (at_node j (x ∷ steps)) ≡ Some A
   at-node i x voter here-is lent c new j d A e = one (eqb i j) refl
     where
-      told : (y : Bool) → is_at j x ≡ y → last_report (cond y (x ∷ at_node j steps) (at_node j steps)) ≡ some A → last_report (at_node j (x ∷ steps)) ≡ some A
-      told y is q = subst (λ (z : Bool). last_report (cond z (x ∷ at_node j steps) (at_node j steps)) ≡ some A) (sym is) q
+      told : (y : Bool) → is_at j x ≡ y → last_report (cond y (x ∷ at_node j steps) (at_node j steps)) ≡ Some A → last_report (at_node j (x ∷ steps)) ≡ Some A
+      told y is q = subst (λ (z : Bool). last_report (cond z (x ∷ at_node j steps) (at_node j steps)) ≡ Some A) (sym is) q
 
-      one : (y : Bool) → eqb i j ≡ y → last_report (at_node j (x ∷ steps)) ≡ some A
+      one : (y : Bool) → eqb i j ≡ y → last_report (at_node j (x ∷ steps)) ≡ Some A
       one true q =
           let same : i ≡ j = eqb-true i j q in
           told true (here-is j ∙ q)
-          (subst (λ (k : ℕ). last_report (x ∷ at_node k steps) ≡ some A) same
+          (subst (λ (k : ℕ). last_report (x ∷ at_node k steps) ≡ Some A) same
           (new A (sym (ap said_in (get_or-set_same records i voter down_voter lent)) ∙ ap (λ (k : ℕ). said_in (get_or (set records i voter) k down_voter)) same ∙ e)))
       one false q =
           told false (here-is j ∙ q)
           (keeps.relay j d A (sym (ap said_in (get_or-set_other records i j voter down_voter (λ (s : j ≡ i). eqb-false i j q (sym s)))) ∙ e))
 
   -- a turn in the life of a node: its record has lost what the relay said
-  turns-over : (number i : ℕ) (turn : Turn) → Placed a.site (length records) i → (voter : Voter) → ((A : ℕ) → said_in voter ≡ some A → ⊥) → (down : ℕ)
+  turns-over : (number i : ℕ) (turn : Turn) → Placed a.site (length records) i → (voter : Voter) → ((A : ℕ) → said_in voter ≡ Some A → ⊥) → (down : ℕ)
       → Keeps b (done_with number (Life i turn) silence ∷ steps) (record { site = with_down a.site down; held = a.held }) (set records i voter)
   turns-over number i turn p voter silent down =
       record {
@@ -195,19 +191,19 @@ module _ (b : Beginning) (steps : List Accepted) (a : Arbiter) (records : List V
     end = voted a.site.breaker voter t event
 
     abbrev x : Accepted
-    x = done_with number (AtNode i t event) (record { shares = shares_of end.message; commands = Zero; ack = No })
+    x = done_with number (AtNode i t event) (record { shares = shares_of end.message; commands = Zero; ack = None })
 
     -- what is said in this step, or was said before it, is the last report
-    last-report : (A : ℕ) → relay_after (Steps.in_peer event) (said_in voter) ≡ some A → last_report (x ∷ at_node i steps) ≡ some A
+    last-report : (A : ℕ) → relay_after (Steps.in_peer event) (said_in voter) ≡ Some A → last_report (x ∷ at_node i steps) ≡ Some A
     last-report A e = go (reports (Steps.in_peer event)) e
       where
-        go : (y : Bool) → cond y (said_by (Steps.in_peer event)).status (said_in voter) ≡ some A → cond y (said_by (Steps.in_peer event)).status (last_report (at_node i steps)) ≡ some A
+        go : (y : Bool) → cond y (said_by (Steps.in_peer event)).status (said_in voter) ≡ Some A → cond y (said_by (Steps.in_peer event)).status (last_report (at_node i steps)) ≡ Some A
         go true e = e
         go false e = keeps.relay i (correct i p) A e
 
-    listed_same : (k : Known) → listed (shares_of k) ≡ listed_known k
-    listed_same (Yes q) = refl
-    listed_same No = refl
+    listed_same : (k : Option Pair) → listed (shares_of k) ≡ listed_known k
+    listed_same (Some q) = refl
+    listed_same None = refl
 
     sends : (A : ℕ) (T : Dts) → has (listed (shares_of end.message)) A T ≡ true → SentIt i A T x steps
     sends A T h =
@@ -220,7 +216,7 @@ module _ (b : Beginning) (steps : List Accepted) (a : Arbiter) (records : List V
           reported = ap (λ (y : Bool). last_report (cond y (x ∷ at_node i steps) (at_node i steps))) own ∙ last-report A q.0;
         }
 
-    votes : ((A : ℕ) → said_in end.voter ≡ some A → relay_after (Steps.in_peer event) (said_in voter) ≡ some A)
+    votes : ((A : ℕ) → said_in end.voter ≡ Some A → relay_after (Steps.in_peer event) (said_in voter) ≡ Some A)
         → Keeps b (x ∷ steps) (record { site = with_made a.site (put_all a.site.made i (shares_of end.message)); held = a.held }) (set records i end.voter)
     votes told =
         record {
@@ -240,10 +236,10 @@ module _ (b : Beginning) (steps : List Accepted) (a : Arbiter) (records : List V
 
 -- ---- any step
 
-module _ (h : List Entry) (a : Arbiter) (records : List Voter) (before : (b : Beginning) → last_start h ≡ some b → Keeps b (accepted h) a records) where
+module _ (h : List Entry) (a : Arbiter) (records : List Voter) (before : (b : Beginning) → last_start h ≡ Some b → Keeps b (accepted h) a records) where
   abbrev KeptBy : Step → Out → Type 0
   KeptBy step out =
-      (b : Beginning) → last_start (record { step = step; answer = out.answer } ∷ h) ≡ some b
+      (b : Beginning) → last_start (record { step = step; answer = out.answer } ∷ h) ≡ Some b
       → Keeps b (accepted (record { step = step; answer = out.answer } ∷ h)) out.site (table_after_answer out.answer step records out.node)
 
   abbrev voter_of : Step → Voter
@@ -257,7 +253,7 @@ module _ (h : List Entry) (a : Arbiter) (records : List Voter) (before : (b : Be
   begins-anew first e = λ b q.
       let begun = begins a.site (length records) (in_peer (voter_of (Start first))) first (start-passes a (length records) (voter_of (Start first)) first e) in
       subst (λ (x : Beginning). Keeps x [] (record { site = started_site first; held = empty first.g }) (first_records (nodes first.f first.k) first.compromised records))
-      (ap (λ (o : Option Beginning). Option.get_or o b) q) (starts records first begun.most-f begun.most-k begun.few)
+      (ap (λ (o : Option Beginning). unwrap_or o b) q) (starts records first begun.most-f begun.most-k begun.few)
 
   goes_on : Does Tick
   unfolding effect_of
@@ -310,11 +306,11 @@ module _ (h : List Entry) (a : Arbiter) (records : List Voter) (before : (b : Be
 -- ---- every sequence
 
 -- where nothing has happened there was no Start
-pub no_start : {b : Beginning} → none ≡ some b → ⊥
+pub no_start : {b : Beginning} → None ≡ Some b → ⊥
 unfolding there
 no_start q = false≢true (ap there q)
 
-pub reached-keeps : {first : Moment} {h : List Entry} {m : Moment} → Reached first h m → (b : Beginning) → last_start h ≡ some b → Keeps b (accepted h) m.site m.records
+pub reached-keeps : {first : Moment} {h : List Entry} {m : Moment} → Reached first h m → (b : Beginning) → last_start h ≡ Some b → Keeps b (accepted h) m.site m.records
 unfolding table_after
 reached-keeps from = λ b q. absurd (no_start q)
 reached-keeps (then {h} {m} r step) = kept h m.site m.records (reached-keeps r) step

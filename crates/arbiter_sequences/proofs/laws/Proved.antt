@@ -1,9 +1,9 @@
 -- The demand holds.
-use Rattle.std.specs.Prelude.{ℕ, ◌≡◌, refl, List, length}
+use Rattle.std.specs.Prelude.{◌≡◌, refl, List, length, Err}
 use Rattle.std.proofs.Common.{sym, ap, ap₂, ◌∙◌, true≢false}
+use Rattle.refusals.specs.declared.Refusal.{Refusal}
 use Rattle.time.specs.declared.Dts.{Dts}
 use Rattle.pairs.specs.declared.Pair.{Pair}
-use Rattle.site.specs.declared.Answer.TheVariants.{Refused}
 use Rattle.site.specs.Answers.{is_done}
 use Rattle.arbiter_steps.specs.Steps.{named}
 use Rattle.arbiter_site.specs.declared.Out.{Out}
@@ -49,5 +49,5 @@ refused-changes-nothing m step number is =
   where
     Nothing : Out → Type 0
     Nothing out =
-        (number : ℕ) → out.answer ≡ Refused number
+        (refusal : Refusal) → out.answer ≡ Err refusal
         → record { site = out.site; records = table_after_answer out.answer step m.records out.node } ≡ m

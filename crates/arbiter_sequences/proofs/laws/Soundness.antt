@@ -1,11 +1,10 @@
 -- A site that came from a Start passes refusal 16, and so does the record of each of its nodes: every step keeps what 16 asks of a site, and of a record that
 -- its numbers are in range. More is not asked of a node without a second pair.
 use Prim.Native.Nat.{ℕ, ◌+◌, ◌-◌, ◌≤◌, ◌<◌}
-use Rattle.std.specs.Prelude.{◌≡◌, Bool, ◌&&◌, ◌||◌, cond, ◌⊎◌, List, ◌∷◌, eqb, leb, ltb, length, set, drop}
+use Rattle.std.specs.Prelude.{◌≡◌, Bool, ◌&&◌, ◌||◌, cond, ◌⊎◌, List, ◌∷◌, eqb, leb, ltb, length, set, drop, Option, None, Some}
 use Rattle.std.proofs.Math.Path.{refl, sym, subst}
 use Rattle.std.proofs.Common.{◌∙◌, inl, inr, arith, lit<, length-set, get_or-set_same, get_or-set_other}
 use Rattle.std.proofs.Math.Bool.{true, false, and-eq-true_iff}
-use Rattle.std.proofs.Math.Option.{Option, none, some}
 use Rattle.std.proofs.Math.ListN.{get_or}
 use borrow.Author.Tests.{eqb-true, eqb-false, eq-eqb, leb-true, leb-false, le-leb}
 use Rattle.refusals.specs.laws.Bools.{left}
@@ -98,7 +97,7 @@ voted-in-range breaker voter count t event of-breaker late e =
           (sound-by breaker (phase_in_peer voter.phase) t (Steps.in_peer event) of-breaker (omega (arith, late)) (parts (in_peer voter) count e).of-phase);
     })
 
--- ---- the breaker after a message: what it becomes is what some command would make of it
+-- ---- the breaker after a message: what it becomes is what Some command would make of it
 
 fresh-now : (t : Dts) → fresh t t ≡ true
 fresh-now t = simp (le-leb (t.0 - window) t.0 (omega arith), le-leb t.0 (t.0 + window) (omega arith))
@@ -250,12 +249,12 @@ module _ (a : Arbiter) (records : List Voter) (s : Sound a records) (t : Dts) (m
 -- ---- one step
 
 module _
-    (h : List Entry) (a : Arbiter) (records : List Voter) (keeps : (b : Beginning) → last_start h ≡ some b → Keeps b (accepted h) a records)
-    (before : (b : Beginning) → last_start h ≡ some b → Sound a records)
+    (h : List Entry) (a : Arbiter) (records : List Voter) (keeps : (b : Beginning) → last_start h ≡ Some b → Keeps b (accepted h) a records)
+    (before : (b : Beginning) → last_start h ≡ Some b → Sound a records)
   where
     abbrev SoundBy : Step → Out → Type 0
     SoundBy step out =
-        (b : Beginning) → last_start (record { step = step; answer = out.answer } ∷ h) ≡ some b
+        (b : Beginning) → last_start (record { step = step; answer = out.answer } ∷ h) ≡ Some b
         → Sound out.site (table_after_answer out.answer step records out.node)
 
     abbrev voter_of : Step → Voter
@@ -340,12 +339,12 @@ module _
 
 -- ---- every sequence
 
-pub reached-sound : {first : Moment} {h : List Entry} {m : Moment} → Reached first h m → (b : Beginning) → last_start h ≡ some b → Sound m.site m.records
+pub reached-sound : {first : Moment} {h : List Entry} {m : Moment} → Reached first h m → (b : Beginning) → last_start h ≡ Some b → Sound m.site m.records
 unfolding table_after
 reached-sound from = λ b q. absurd (no_start q)
 reached-sound (then {h} {m} r step) = still-sound h m.site m.records (reached-keeps r) (reached-sound r) step
 
--- the first test of the table, for every step: a step that names a node from n on, or none, asks for no record
+-- the first test of the table, for every step: a step that names a node from n on, or None, asks for no record
 passes-16 : (a : Arbiter) (records : List Voter) (step : Step) → Sound a records
     → are_sound a (length records) (record_of (named step).actor records) (named step) ≡ true
 unfolding arbiter_sound actor_sound
@@ -356,15 +355,15 @@ passes-16 a records step s = go (named step).beginning (named step).actor
     below i false e = sound-in-range (get_or records i down_voter) (n a.site) ∙ s.of-nodes i (leb-false _ _ e)
 
     of-actor : (actor : Option ℕ) → of_named actor (actor_sound a.site (in_peer (record_of actor records))) ≡ true
-    of-actor none = refl
-    of-actor (some i) = below i (leb (n a.site) i) refl
+    of-actor None = refl
+    of-actor (Some i) = below i (leb (n a.site) i) refl
 
     of-all : arbiter_sound a (length records) ≡ true
     of-all = simp (s.of-site, s.of-clock, s.of-held)
 
     go : (b : Option Beginning) (actor : Option ℕ) → unless_start b (arbiter_sound a (length records) && of_named actor (actor_sound a.site (in_peer (record_of actor records)))) ≡ true
-    go (some b) actor = refl
-    go none actor = (and-eq-true_iff _ _).1 (of-all, of-actor actor)
+    go (Some b) actor = refl
+    go None actor = (and-eq-true_iff _ _).1 (of-all, of-actor actor)
 
 pub never-damaged : Always NeverDamaged
 unfolding out_of

@@ -1,4 +1,4 @@
 use Rattle.arbiter_site.proofs.shares_of.Goals as goal
 
-pub returns-in-Yes : goal.returns-in-Yes
-returns-in-Yes c = simp c.in-Yes.is
+pub returns-in-Some : goal.returns-in-Some
+returns-in-Some c = simp c.in-Some.is

@@ -1,13 +1,13 @@
-use mathlib.Core.Path.{◌∙◌}
+use Rattle.std.proofs.Common.{sym, ◌∙◌}
 use Rattle.arbiter_site.specs.laws.StepLaws.{when-refused, when-done}
 use Rattle.arbiter_site.specs.laws.Parts.{cut-tick}
-use Rattle.arbiter_site.specs.Effects.{effect_of}
 use Rattle.effects.specs.Effects.{ticked}
+use Rattle.arbiter_site.specs.Effects.{effect_of}
 use Rattle.arbiter_site.proofs.tick.Goals as goal
 
-pub returns-then-refusal-ne0 : goal.returns-then-refusal-ne0
-returns-then-refusal-ne0 c = when-refused _ _ _ _ _ (c.refuse_tick-refusal.ensures ∙ cut-tick _ _ _ _ c.is_sound-sound.ensures) _ c.refused.ensures c.if-refusal-ne0.true
-
-pub returns : goal.returns
+pub returns-in-Ok : goal.returns-in-Ok
 unfolding effect_of ticked
-returns c = when-done _ _ _ _ _ (c.refuse_tick-refusal.ensures ∙ cut-tick _ _ _ _ c.is_sound-sound.ensures) _ (simp (c.done.ensures, c.with_made.ensures, c.silence.ensures, c.tick-made.ensures)) c.if-refusal-ne0.false
+returns-in-Ok c = when-done _ _ _ _ (sym c.in-Ok.is ∙ c.refuse_tick.ensures ∙ cut-tick _ _ _ _ c.is_sound-sound.ensures) _ (simp (c.done.ensures, c.silence.ensures, c.tick-made.ensures))
+
+pub returns-in-Err : goal.returns-in-Err
+returns-in-Err c = when-refused _ _ _ _ _ (sym c.in-Err.is ∙ c.refuse_tick.ensures ∙ cut-tick _ _ _ _ c.is_sound-sound.ensures) _ c.refused.ensures

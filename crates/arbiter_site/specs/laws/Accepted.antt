@@ -1,12 +1,12 @@
 -- What the tests of an accepted step say. A step that 01's site has too passes the tests that it has there, so all that is known of 01's accepted steps is known of
 -- it; what is left is what an accepted message has found.
-use Rattle.std.specs.Prelude.{ℕ, ◌≤◌, ◌<◌, ◌≡◌, Bool, true, false, not, ◌&&◌, ◌||◌, cond, List, ◌∷◌}
+use Rattle.std.specs.Prelude.{ℕ, ◌≤◌, ◌<◌, ◌≡◌, Bool, true, false, not, ◌&&◌, ◌||◌, cond, List, ◌∷◌, Option, None, Some, Ok, Err}
 use Rattle.std.proofs.Math.Path.{refl, subst}
-use Rattle.std.proofs.Common.{sym, ◌∙◌, arith, ltb-true, leb-true}
+use Rattle.std.proofs.Common.{sym, ◌∙◌, ltb-true, leb-true}
 use Rattle.std.proofs.lemmas.Bool.{false≢true}
 use Rattle.std.proofs.Math.Bool.{and-eq-true_iff}
-use Rattle.std.proofs.Math.Option.{Option, none, some}
-use Rattle.refusals.specs.Tests.{Test, refusal, numbered, test_at}
+use Rattle.refusals.specs.declared.Refusal.TheVariants.{Unsound}
+use Rattle.refusals.specs.Tests.{Test, refusal, test_at}
 use Rattle.refusals.specs.laws.Tests.{each-passed}
 use Rattle.refusals.specs.laws.Bools.{left, right, or-false}
 use Rattle.time.specs.declared.Dts.{Dts}
@@ -39,17 +39,12 @@ use Rattle.arbiter_site.specs.Tests.{table_for, tests_of}
 
 module _ (a : Arbiter) (lent : ℕ) (voter : Voter) (step : Step) where
   abbrev pub Passes : Type 0
-  Passes = refusal (tests_of a lent voter step) ≡ 0
-
-  -- no row has the number 0
-  pub tests-numbered : numbered (tests_of a lent voter step) ≡ true
-  unfolding tests_of
-  tests-numbered = refl
+  Passes = refusal (tests_of a lent voter step) ≡ Ok tt
 
   -- row k is passed
   pub row-passed : (k : ℕ) → Passes → test_at k (table_for a lent voter (named step)) ≡ true
   unfolding tests_of
-  row-passed k e = each-passed k (table_for a lent voter (named step)) refl e
+  row-passed k e = each-passed k (table_for a lent voter (named step)) e
 
 -- ---- the steps that 01's site has too
 
@@ -59,16 +54,16 @@ unfolding arbiter_sound
 peer-sound a lent e = left (site_sound a.site lent) _ (left _ _ e)
 
 -- with a weaker 16 in front of the other rows they are passed all the more
-weaker : (x y : Bool) (ts : List Test) → (x ≡ true → y ≡ true) → refusal ((16, x) ∷ ts) ≡ 0 → refusal ((16, y) ∷ ts) ≡ 0
+weaker : (x y : Bool) (ts : List Test) → (x ≡ true → y ≡ true) → refusal ((Unsound, x) ∷ ts) ≡ Ok tt → refusal ((Unsound, y) ∷ ts) ≡ Ok tt
 unfolding refusal
-weaker true y ts h e = subst (λ (b : Bool). cond b (refusal ts) 16 ≡ 0) (sym (h refl)) e
-weaker false y ts h e = absurd (omega (arith, e))
+weaker true y ts h e = subst (λ (b : Bool). cond b (refusal ts) (Err Unsound) ≡ Ok tt) (sym (h refl)) e
+weaker false y ts h e = cc
 
 module _ (a : Arbiter) (lent : ℕ) (voter : Voter) where
   weaker-16 : (beginning : Option Beginning) (actor : Bool) → unless_start beginning (arbiter_sound a lent && actor) ≡ true
       → unless_start beginning (site_sound a.site lent && actor) ≡ true
-  weaker-16 (some b) actor e = refl
-  weaker-16 none actor e =
+  weaker-16 (Some b) actor e = refl
+  weaker-16 None actor e =
       let both = (and-eq-true_iff (arbiter_sound a lent) actor).0 e in
       (and-eq-true_iff (site_sound a.site lent) actor).1 (peer-sound a lent both.0, both.1)
 
@@ -79,7 +74,7 @@ module _ (a : Arbiter) (lent : ℕ) (voter : Voter) where
   as-peer : (step : Step) (peer : PeerStep) → named step ≡ PeerNamed.named peer → Passes a lent voter step → PeerPasses peer
   unfolding tests_of PeerTests.tests_of
   as-peer step peer same e =
-      subst (λ (the : Named). refusal (PeerTests.table_for a.site lent (in_peer voter) the) ≡ 0) same
+      subst (λ (the : Named). refusal (PeerTests.table_for a.site lent (in_peer voter) the) ≡ Ok tt) same
       (weaker _ _ (rows_for a.site lent (in_peer voter) (named step)) (weaker-16 (named step).beginning (of_named (named step).actor (actor_sound a.site (in_peer voter)))) e)
 
   pub start-passes : (b : Beginning) → Passes a lent voter (Start b) → PeerPasses (Peer.Start b)
@@ -96,7 +91,7 @@ module _ (a : Arbiter) (lent : ℕ) (voter : Voter) where
 
 -- ---- what 16 has found, in any step but a Start
 
-pub sound-site : (a : Arbiter) (lent : ℕ) (voter : Voter) (step : Step) → Passes a lent voter step → (named step).beginning ≡ none → arbiter_sound a lent ≡ true
+pub sound-site : (a : Arbiter) (lent : ℕ) (voter : Voter) (step : Step) → Passes a lent voter step → (named step).beginning ≡ None → arbiter_sound a lent ≡ true
 sound-site a lent voter step e no_start =
     left _ _
     (subst (λ (b : Option Beginning). unless_start b (arbiter_sound a lent && of_named (named step).actor (actor_sound a.site (in_peer voter))) ≡ true) no_start

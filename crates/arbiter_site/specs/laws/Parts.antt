@@ -1,6 +1,7 @@
 -- What the functions inside this crate promise of refusals: the table, cut as the code goes through it.
 use Rattle.std.specs.Prelude.{ℕ, ◌≡◌, refl, Bool, true, ◌&&◌, List, [], ◌∷◌, leb}
 use Rattle.std.proofs.Common.{sym, ap, ap₂, ◌∙◌}
+use Rattle.refusals.specs.declared.Refusal.TheVariants.{BadStart, BadNumber, NotNow, ClockBack, Unsound}
 use Rattle.refusals.specs.Tests.{Test, refusal}
 use Rattle.refusals.specs.laws.Bools.{and-true, or-false}
 use Rattle.time.specs.declared.Dts.{Dts}
@@ -26,9 +27,9 @@ use Rattle.arbiter_site.specs.Tests.{tests_of}
 -- 2, 5, 6, 7 and 8 of a message
 abbrev pub message_tests : Site → Dts → Message → List Test
 message_tests site t m =
-    (2, is_node site m.sender && is_status m.status)
-    ∷ (5, is_now site t)
-    ∷ (6, leb site.breaker.clock.0 t.0)
+    (BadNumber, is_node site m.sender && is_status m.status)
+    ∷ (NotNow, is_now site t)
+    ∷ (ClockBack, leb site.breaker.clock.0 t.0)
     ∷ share_tests site t m.sender m.status m.stamp
 
 module _ (a : Arbiter) (lent : ℕ) (voter : Voter) (sound : Bool) where
@@ -36,17 +37,17 @@ module _ (a : Arbiter) (lent : ℕ) (voter : Voter) (sound : Bool) where
   of-site : sound ≡ arbiter_sound a lent → sound ≡ (arbiter_sound a lent && true)
   of-site is = is ∙ sym (and-true (arbiter_sound a lent))
 
-  pub cut-tick : sound ≡ arbiter_sound a lent → refusal ((16, sound) ∷ tick_tests a.site) ≡ refusal (tests_of a lent voter Tick)
+  pub cut-tick : sound ≡ arbiter_sound a lent → refusal ((Unsound, sound) ∷ tick_tests a.site) ≡ refusal (tests_of a lent voter Tick)
   unfolding tests_of
   cut-tick is = sixteen-first sound _ (tick_tests a.site) _ (of-site is) (rest-tick a.site lent (in_peer voter))
 
   pub cut-event : (i : ℕ) (t : Dts) (event : Event) → sound ≡ (arbiter_sound a lent && actor_sound a.site (in_peer voter) i)
-      → refusal ((16, sound) ∷ sound_tests a.site (in_peer voter) (Peer.AtNode i t (Steps.in_peer event))) ≡ refusal (tests_of a lent voter (AtNode i t event))
+      → refusal ((Unsound, sound) ∷ sound_tests a.site (in_peer voter) (Peer.AtNode i t (Steps.in_peer event))) ≡ refusal (tests_of a lent voter (AtNode i t event))
   unfolding tests_of
   cut-event i t event is = sixteen-first sound _ _ _ is (rest-event a.site lent (in_peer voter) i t (Steps.in_peer event))
 
   pub cut-turn : (i : ℕ) (turn : Turn) → sound ≡ (arbiter_sound a lent && actor_sound a.site (in_peer voter) i)
-      → refusal ((16, sound) ∷ sound_tests a.site (in_peer voter) (Peer.Life i turn)) ≡ refusal (tests_of a lent voter (Life i turn))
+      → refusal ((Unsound, sound) ∷ sound_tests a.site (in_peer voter) (Peer.Life i turn)) ≡ refusal (tests_of a lent voter (Life i turn))
   unfolding tests_of
   cut-turn i turn is = sixteen-first sound _ _ _ is (rest-turn a.site lent (in_peer voter) i turn)
 
@@ -54,25 +55,25 @@ module _ (a : Arbiter) (lent : ℕ) (voter : Voter) (sound : Bool) where
   unfolding refusal
   rest-message t m = simp (and-true, or-false, if-fresh)
 
-  pub cut-message : (t : Dts) (m : Message) → sound ≡ arbiter_sound a lent → refusal ((16, sound) ∷ message_tests a.site t m) ≡ refusal (tests_of a lent voter (AtBreaker t m))
+  pub cut-message : (t : Dts) (m : Message) → sound ≡ arbiter_sound a lent → refusal ((Unsound, sound) ∷ message_tests a.site t m) ≡ refusal (tests_of a lent voter (AtBreaker t m))
   unfolding tests_of
   cut-message t m is = sixteen-first sound _ (message_tests a.site t m) _ (of-site is) (rest-message t m)
 
 -- a Start has row 1 alone
-pub start-alone : (a : Arbiter) (lent : ℕ) (voter : Voter) (b : Beginning) → refusal ((1, can_begin lent b) ∷ []) ≡ refusal (tests_of a lent voter (Start b))
+pub start-alone : (a : Arbiter) (lent : ℕ) (voter : Voter) (b : Beginning) → refusal ((BadStart, can_begin lent b) ∷ []) ≡ refusal (tests_of a lent voter (Start b))
 unfolding tests_of refusal
 start-alone a lent voter b = refl
 
 -- as the code has it: with 01's node, and its event, by themselves
 module _ (a : Arbiter) (lent : ℕ) (voter : Voter) (i : ℕ) (node : Node) (is : node ≡ in_peer voter) where
   pub event-refused : (t : Dts) (event : Event) (e : PeerEvent) → e ≡ Steps.in_peer event → (sound : Bool) → sound ≡ (arbiter_sound a lent && actor_sound a.site node i)
-      → refusal ((16, sound) ∷ sound_tests a.site node (Peer.AtNode i t e)) ≡ refusal (tests_of a lent voter (AtNode i t event))
+      → refusal ((Unsound, sound) ∷ sound_tests a.site node (Peer.AtNode i t e)) ≡ refusal (tests_of a lent voter (AtNode i t event))
   event-refused t event e same sound so =
-      ap₂ (λ (x : Node) (y : PeerEvent). refusal ((16, sound) ∷ sound_tests a.site x (Peer.AtNode i t y))) is same
+      ap₂ (λ (x : Node) (y : PeerEvent). refusal ((Unsound, sound) ∷ sound_tests a.site x (Peer.AtNode i t y))) is same
       ∙ cut-event a lent voter sound i t event (so ∙ ap (λ (x : Node). arbiter_sound a lent && actor_sound a.site x i) is)
 
   pub turn-refused : (turn : Turn) (sound : Bool) → sound ≡ (arbiter_sound a lent && actor_sound a.site node i)
-      → refusal ((16, sound) ∷ sound_tests a.site node (Peer.Life i turn)) ≡ refusal (tests_of a lent voter (Life i turn))
+      → refusal ((Unsound, sound) ∷ sound_tests a.site node (Peer.Life i turn)) ≡ refusal (tests_of a lent voter (Life i turn))
   turn-refused turn sound so =
-      ap (λ (x : Node). refusal ((16, sound) ∷ sound_tests a.site x (Peer.Life i turn))) is
+      ap (λ (x : Node). refusal ((Unsound, sound) ∷ sound_tests a.site x (Peer.Life i turn))) is
       ∙ cut-turn a lent voter sound i turn (so ∙ ap (λ (x : Node). arbiter_sound a lent && actor_sound a.site x i) is)

@@ -1,8 +1,8 @@
 -- What a step's refusal decides.
-use Rattle.std.specs.Prelude.{ℕ, ◌≡◌, refl, Bool, true, false, eqb}
-use Rattle.std.proofs.Math.Path.{sym, ap}
-use Rattle.std.proofs.Common.{◌∙◌, eq-eqb, ne_eqb, eqb-true}
-use Rattle.std.proofs.Math.Bool.{cond}
+use Rattle.std.specs.Prelude.{ℕ, ◌≡◌, refl, true, Result, Ok, Err}
+use Rattle.std.proofs.Math.Path.{ap}
+use Rattle.std.proofs.Common.{◌∙◌}
+use Rattle.refusals.specs.declared.Refusal.{Refusal}
 use Rattle.refusals.specs.Tests.{refusal}
 use Rattle.steps.specs.declared.Turn.{Turn}
 use Rattle.steps.specs.declared.Turn.TheVariants.{Down, Up}
@@ -19,32 +19,26 @@ use Rattle.arbiter_site.specs.Tests.{tests_of}
 use Rattle.arbiter_site.specs.Effects.{refused, done, effect_of}
 use Rattle.arbiter_site.specs.Steps.{decided, stepped}
 
-module _ (a : Arbiter) (lent : ℕ) (voter : Voter) (step : Step) (number : ℕ) (is : number ≡ refusal (tests_of a lent voter step)) where
-  pub when-refused : (out : Out) → out ≡ refused number a voter → (number ≡ 0 → ⊥) → out ≡ stepped a lent voter step
+module _ (a : Arbiter) (lent : ℕ) (voter : Voter) (step : Step) where
+  pub when-refused : (fault : Refusal) → Err fault ≡ refusal (tests_of a lent voter step) → (out : Out) → out ≡ refused fault a voter → out ≡ stepped a lent voter step
   unfolding stepped
-  when-refused out e h =
-      e
-      ∙ sym (ap (λ (b : Bool). cond b (effect_of a voter step) (refused number a voter)) (ne_eqb number 0 h))
-      ∙ ap (λ (k : ℕ). decided k (effect_of a voter step) a voter) is
+  when-refused fault is out e = e ∙ ap (λ (answer : Result (Unit {0}) Refusal). decided answer (effect_of a voter step) a voter) is
 
-  pub when-done : (out : Out) → out ≡ effect_of a voter step → number ≡ 0 → out ≡ stepped a lent voter step
+  pub when-done : {u : Unit {0}} → Ok u ≡ refusal (tests_of a lent voter step) → (out : Out) → out ≡ effect_of a voter step → out ≡ stepped a lent voter step
   unfolding stepped
-  when-done out e h =
-      e
-      ∙ sym (ap (λ (b : Bool). cond b (effect_of a voter step) (refused number a voter)) (eq-eqb number 0 h))
-      ∙ ap (λ (k : ℕ). decided k (effect_of a voter step) a voter) is
+  when-done is out e = e ∙ ap (λ (answer : Result (Unit {0}) Refusal). decided answer (effect_of a voter step) a voter) is
 
 -- ---- every step
 
 -- what holds of the effect, if all tests are passed, and of each refusal, holds of the step
-pub by_tests : (P : Out → Type 0) (a : Arbiter) (lent : ℕ) (voter : Voter) (step : Step) → (refusal (tests_of a lent voter step) ≡ 0 → P (effect_of a voter step))
-    → ((number : ℕ) → P (refused number a voter)) → P (stepped a lent voter step)
+pub by_tests : (P : Out → Type 0) (a : Arbiter) (lent : ℕ) (voter : Voter) (step : Step) → (refusal (tests_of a lent voter step) ≡ Ok tt → P (effect_of a voter step))
+    → ((fault : Refusal) → P (refused fault a voter)) → P (stepped a lent voter step)
 unfolding stepped
-by_tests P a lent voter step done fails = go (eqb (refusal (tests_of a lent voter step)) 0) refl
+by_tests P a lent voter step done fails = go (refusal (tests_of a lent voter step)) refl
   where
-    go : (b : Bool) → eqb (refusal (tests_of a lent voter step)) 0 ≡ b → P (cond b (effect_of a voter step) (refused (refusal (tests_of a lent voter step)) a voter))
-    go true e = done (eqb-true (refusal (tests_of a lent voter step)) 0 e)
-    go false e = fails (refusal (tests_of a lent voter step))
+    go : (answer : Result (Unit {0}) Refusal) → refusal (tests_of a lent voter step) ≡ answer → P (decided answer (effect_of a voter step) a voter)
+    go (Ok tt) e = done e
+    go (Err fault) e = fails fault
 
 pub effect-done : (a : Arbiter) (voter : Voter) (step : Step) → is_done (effect_of a voter step).answer ≡ true
 unfolding effect_of

@@ -1,5 +1,5 @@
 -- What refusal 16 asks of a breaker, taken apart and put together; a breaker at the start passes it, and so does one after a command.
-use Rattle.std.specs.Prelude.{ℕ, ◌+◌, ◌-◌, ◌≤◌, ◌<◌, ◌≡◌, refl, Bool, true, false, ◌&&◌, cond, eqb, leb, ltb}
+use Rattle.std.specs.Prelude.{ℕ, ◌+◌, ◌-◌, ◌≤◌, ◌<◌, ◌≡◌, refl, Bool, true, false, ◌&&◌, cond, eqb, leb, ltb, Some, None}
 use Rattle.std.proofs.Common.{ap, subst, ◌∙◌, arith, ltb-true, leb-true, le-leb}
 use Rattle.std.proofs.Math.Bool.{and-eq-true_iff}
 use Rattle.refusals.specs.laws.Bools.{right}
@@ -9,7 +9,6 @@ use Rattle.time.specs.Limits.{clock_sound}
 use Rattle.tables.specs.Tables.{table, get_d-table}
 use Rattle.tables.specs.laws.Every.{each-passes, every-passes}
 use Rattle.pairs.specs.declared.Pair.{Pair}
-use Rattle.pairs.specs.declared.Known.TheVariants.{Yes, No}
 use Rattle.pairs.specs.Pair.{pair}
 use Rattle.pairs.specs.laws.KnownLaws.{none-known, same_known}
 use Rattle.breaker.specs.declared.Changes.{Changes}
@@ -77,11 +76,11 @@ unfolding breaker_sound
 whole breaker s = simp (s.of_pair, s.of-clock, s.of-changes)
 
 -- each change that an ack delivers is sound
-pub change-sound : (breaker : Breaker) (back : ℕ) (p : Pair) → breaker_sound breaker ≡ true → change_at breaker back ≡ Yes p → pair_sound p ≡ true
+pub change-sound : (breaker : Breaker) (back : ℕ) (p : Pair) → breaker_sound breaker ≡ true → change_at breaker back ≡ Some p → pair_sound p ≡ true
 unfolding change_at
 change-sound breaker back p e = go (ltb back breaker.changes.count && ltb back most_changes) refl
   where
-    go : (x : Bool) → (ltb back breaker.changes.count && ltb back most_changes) ≡ x → cond x (Yes (pair_at breaker.changes back)) No ≡ Yes p → pair_sound p ≡ true
+    go : (x : Bool) → (ltb back breaker.changes.count && ltb back most_changes) ≡ x → cond x (Some (pair_at breaker.changes back)) None ≡ Some p → pair_sound p ≡ true
     go true q is =
         subst (λ (y : Pair). pair_sound y ≡ true) (same_known _ p is)
         ((changes-parts breaker.changes (parts breaker e).of-changes).each back (ltb-true _ _ (right (ltb back breaker.changes.count) _ q)))

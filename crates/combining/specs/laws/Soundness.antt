@@ -1,19 +1,16 @@
 -- What the end of an event leaves, refusal 16 lets pass: the stamp of a command is fresh at the node's clock, and the node's own shares have the node as
 -- their sender. And the second pair stays no later than b.
-use Rattle.std.specs.Prelude.{ℕ, ◌+◌, ◌≤◌, ◌<◌, ◌≡◌, refl, Bool, true, false, cond}
+use Rattle.std.specs.Prelude.{ℕ, ◌+◌, ◌≤◌, ◌<◌, ◌≡◌, refl, Bool, true, false, cond, Option, Some, None}
+use Rattle.pairs.specs.declared.Pair.{Pair}
 use Rattle.std.proofs.Common.{arith, le-leb}
 use Rattle.time.specs.declared.Dts.{Dts}
 use Rattle.time.specs.Fresh.{window}
 use Rattle.time.specs.Limits.{last_held_stamp, stamp_sound}
 use Rattle.store.specs.declared.Store.{Store}
-use Rattle.store.specs.declared.Earliest.{Earliest}
-use Rattle.store.specs.declared.Earliest.TheVariants.{Stamp, Nothing}
 use Rattle.store.specs.Store.{store_within, put}
 use Rattle.store.specs.Earliest.{earliest}
 use Rattle.store.proofs.laws.EarliestLaws.{earliest-ahead, earliest-stamp}
 use Rattle.store.proofs.laws.WithinLaws.{put-within}
-use Rattle.pairs.specs.declared.Known.{Known}
-use Rattle.pairs.specs.declared.Known.TheVariants.{Yes, No}
 use Rattle.pairs.specs.Pair.{pair}
 use Rattle.pairs.specs.declared.Pairs.{Pairs}
 use Rattle.pairs.specs.declared.Pairs.TheVariants.{Zero, One, Two}
@@ -30,11 +27,11 @@ ended-sound store f l Down s = s
 ended-sound store f l (Starting learned) s = s
 ended-sound store f l (Running rec) s = go (attempts rec.r rec.b) (earliest store rec.r.status rec.b.stamp f) refl
   where
-    go : (x : Bool) (e : Earliest) → earliest store rec.r.status rec.b.stamp f ≡ e
-        → SoundPhase (Running (cond x (commanding rec e) (record { rec = rec; command = No })).rec)
+    go : (x : Bool) (e : Option Dts) → earliest store rec.r.status rec.b.stamp f ≡ e
+        → SoundPhase (Running (cond x (commanding rec e) (record { rec = rec; command = None })).rec)
     go false e is = s
-    go true Nothing is = s
-    go true (Stamp T) is = record { of-r = s.of-r; of-b = sound; of-second = s.of-second; of-resend = sound }
+    go true None is = s
+    go true (Some T) is = record { of-r = s.of-r; of-b = sound; of-second = s.of-second; of-resend = sound }
       where
         sound : stamp_sound T ≡ true
         sound = let ahead = earliest-ahead store rec.r.status rec.b.stamp f T is in le-leb T.0 last_held_stamp (omega (arith, l, ahead))
@@ -46,15 +43,15 @@ ended-follows store f Down l = l
 ended-follows store f (Starting learned) l = l
 ended-follows store f (Running rec) l = go (attempts rec.r rec.b) (earliest store rec.r.status rec.b.stamp f) refl
   where
-    raised : (k : Known) (T : Dts) → rec.b.stamp.0 < T.0 → Follows k (Yes rec.b) → Follows k (Yes (pair rec.r.status T))
-    raised (Yes second) T above l = omega (arith, above, l)
-    raised No T above l = l
+    raised : (k : Option Pair) (T : Dts) → rec.b.stamp.0 < T.0 → Follows k (Some rec.b) → Follows k (Some (pair rec.r.status T))
+    raised (Some second) T above l = omega (arith, above, l)
+    raised None T above l = l
 
-    go : (x : Bool) (e : Earliest) → earliest store rec.r.status rec.b.stamp f ≡ e
-        → FollowsIn (Running (cond x (commanding rec e) (record { rec = rec; command = No })).rec)
+    go : (x : Bool) (e : Option Dts) → earliest store rec.r.status rec.b.stamp f ≡ e
+        → FollowsIn (Running (cond x (commanding rec e) (record { rec = rec; command = None })).rec)
     go false e is = l
-    go true Nothing is = l
-    go true (Stamp T) is = raised rec.second T (earliest-stamp store rec.r.status rec.b.stamp f T is).above-bound l
+    go true None is = l
+    go true (Some T) is = raised rec.second T (earliest-stamp store rec.r.status rec.b.stamp f T is).above-bound l
 
 pub all-within : (s : Store) (n i : ℕ) (shares : Pairs) → store_within s n ≡ true → i < n → store_within (put_all s i shares) n ≡ true
 unfolding put_all

@@ -1,11 +1,12 @@
-use mathlib.Core.Path.{ap, ◌∙◌}
-use Rattle.effects.specs.laws.Parts.{noted_by, none-shared}
+use mathlib.Core.Path.{◌≡◌, ap, ◌∙◌}
+use Rattle.combining.specs.Combining.{put_all}
+use Rattle.effects.specs.laws.Parts.{noted_by}
 use Rattle.effects.proofs.note.Goals as goal
+use Rattle.effects.proofs.note.Goals.{in-Zero, in_default}
 
-pub returns-in-Zero : goal.returns-in-Zero
-returns-in-Zero c =
+pub returns : goal.returns
+unfolding put_all
+returns c =
     let a = c.args in
-    none-shared a.site a.i c.act-acted.result c.in-Zero.is ∙ ap (noted_by a.site a.i) c.act-acted.ensures
-
-pub returns-in_default : goal.returns-in_default
-returns-in_default c = simp (c.put_all-made.ensures, c.act-acted.ensures)
+    let made : c.match-acted.made ≡ put_all a.site.made a.i c.act-acted.result.shares = elim c.match-acted.branch [ in-Zero w ↦ w.made-is ∙ simp w.in-Zero.is | in_default w ↦ w.made-is ∙ w.put_all-made.ensures ] in
+    rw made (ap (noted_by a.site a.i) c.act-acted.ensures)

@@ -1,9 +1,8 @@
 -- What an accepted command does.
-use Rattle.std.specs.Prelude.{ℕ, ◌≡◌, true, false}
+use Rattle.std.specs.Prelude.{ℕ, ◌≡◌, true, false, Some}
 use Rattle.std.proofs.Math.Path.{ap}
 use Rattle.time.specs.declared.Dts.{Dts}
 use Rattle.time.specs.Larger.{larger}
-use Rattle.pairs.specs.declared.Known.TheVariants.{Yes}
 use Rattle.pairs.specs.declared.Pairs.TheVariants.{Zero}
 use Rattle.pairs.specs.Pair.{pair}
 use Rattle.node.specs.declared.Node.{Node}
@@ -23,7 +22,7 @@ module _ (site : Site) (node : Node) (t : Dts) (A : ℕ) (T : Dts) where
   -- moves, to t, and the record stays.
   pub repeat-done : repeats site.breaker A ≡ true
       → commanded site node t (record { status = A; stamp = T })
-      ≡ done (record { shares = Zero; commands = Zero; ack = Yes site.breaker.pair })
+      ≡ done (record { shares = Zero; commands = Zero; ack = Some site.breaker.pair })
       (with_breaker site (record { pair = site.breaker.pair; clock = t; changes = site.breaker.changes })) node
   unfolding commanded
   repeat-done e = ap afterwards (repeat-keeps site.breaker t A T e)
@@ -31,7 +30,7 @@ module _ (site : Site) (node : Node) (t : Dts) (A : ℕ) (T : Dts) where
   -- Any other sends the ack of its own pair, with the larger of T and t; that pair is the breaker's, and stands in front of the other changes.
   pub change-done : repeats site.breaker A ≡ false
       → commanded site node t (record { status = A; stamp = T })
-      ≡ done (record { shares = Zero; commands = Zero; ack = Yes (pair A (larger T t)) })
+      ≡ done (record { shares = Zero; commands = Zero; ack = Some (pair A (larger T t)) })
       (with_breaker site (record { pair = pair A (larger T t); clock = t; changes = remembered site.breaker.changes (pair A (larger T t)) })) node
   unfolding commanded
   change-done e = ap afterwards (change-moves site.breaker t A T e)

@@ -1,6 +1,6 @@
 -- "Every answer stays the same" (02, §2). The laws fix what a store answers: stores that agree on clock and on what is held answer alike, and go on so,
 -- wherever the one and the other have their sets.
-use Rattle.std.specs.Prelude.{ℕ, ◌^◌, max, ◌≤◌, ◌≡◌, refl, Bool, ◌&&◌, ◌||◌, cond, List, [], ◌∷◌, eqb, ltb}
+use Rattle.std.specs.Prelude.{ℕ, ◌^◌, max, ◌≤◌, ◌≡◌, refl, Bool, ◌&&◌, ◌||◌, cond, List, [], ◌∷◌, eqb, ltb, Option, Some}
 use Rattle.std.proofs.Common.{sym, ap, ap₂, ◌∙◌}
 use Rattle.refusals.specs.laws.Bools.{both_ways}
 use Rattle.time.specs.declared.Dts.{Dts}
@@ -8,8 +8,6 @@ use Rattle.time.specs.Fresh.{window, fresh}
 use Rattle.senders.specs.Masks.{room, enough}
 use Rattle.senders.proofs.laws.MaskLaws.{same_bits}
 use Rattle.store.specs.declared.Store.{Store}
-use Rattle.store.specs.declared.Earliest.{Earliest}
-use Rattle.store.specs.declared.Earliest.TheVariants.{Stamp}
 use Rattle.store.specs.Store.{has_place}
 use Rattle.store.specs.Held.{held}
 use Rattle.store.specs.Earliest.{dts, fresh_stamps, first_of}
@@ -37,7 +35,7 @@ earliest-by-senders K L s z c h a above f =
     each : (stamps : List ℕ) → first_of (λ T. qualifies_in K s a above f T) stamps ≡ first_of (λ T. qualifies_in L z a above f T) stamps
     each [] = refl
     each (T ∷ rest) =
-        ap₂ (λ (m : ℕ) (r : Earliest). cond (ltb above.0 T && ltb T (2 ^ 32) && enough m f) (Stamp (dts T)) r) (h a (dts T)) (each rest)
+        ap₂ (λ (m : ℕ) (r : Option Dts). cond (ltb above.0 T && ltb T (2 ^ 32) && enough m f) (Some (dts T)) r) (h a (dts T)) (each rest)
 
 module _ (K L : Keeping) (k : Laws K) (l : Laws L) where
   pub alike-empty : (clock : Dts) → Alike K L (K.empty_at clock) (L.empty_at clock)

@@ -1,11 +1,10 @@
 -- Ways of keeping shares: what is done with a store and what is asked of it, and the laws. The store of this crate is one way (`the_store`), and where it
 -- has its sets is told by none of this.
-use Rattle.std.specs.Prelude.{ℕ, ◌^◌, max, ◌≤◌, ◌<◌, ◌≡◌, refl, Bool, true, false, ◌&&◌, ◌||◌, List, [], ◌∷◌, eqb, ltb}
+use Rattle.std.specs.Prelude.{ℕ, ◌^◌, max, ◌≤◌, ◌<◌, ◌≡◌, refl, Bool, true, false, ◌&&◌, ◌||◌, List, [], ◌∷◌, eqb, ltb, Option}
 use Rattle.time.specs.declared.Dts.{Dts}
 use Rattle.time.specs.Fresh.{window, fresh}
 use Rattle.senders.specs.Masks.{room, is_in, enough}
 use Rattle.store.specs.declared.Store.{Store}
-use Rattle.store.specs.declared.Earliest.{Earliest}
 use Rattle.store.specs.Store.{has_place, senders_of, empty, put, moved_to, store_within}
 use Rattle.store.specs.Held.{held, has_room_for}
 use Rattle.store.proofs.laws.Held.{held-empty, held-put, clock-put, held_moved, clock-moved}
@@ -48,7 +47,7 @@ module _ (K : Keeping) where
   abbrev pub qualifies_in : K.Kept → ℕ → Dts → ℕ → ℕ → Bool
   qualifies_in s action above f T = ltb above.0 T && ltb T (2 ^ 32) && enough (K.senders_in s action (dts T)) f
 
-  abbrev pub earliest_in : K.Kept → ℕ → Dts → ℕ → Earliest
+  abbrev pub earliest_in : K.Kept → ℕ → Dts → ℕ → Option Dts
   earliest_in s action above f = first_of (qualifies_in s action above f) (fresh_stamps (K.clock_of s))
 
   abbrev pub after : K.Kept → List Change → K.Kept

@@ -1,26 +1,26 @@
 -- Laws of the lent table: what a step that is done has found in it, and the first records of it.
-use Rattle.std.specs.Prelude.{ℕ, ◌≤◌, ◌<◌, ◌≡◌, refl, false, List, ◌++◌, length}
+use Rattle.std.specs.Prelude.{ℕ, ◌≤◌, ◌<◌, ◌≡◌, refl, false, List, ◌++◌, length, Option, None, Some, Ok, Err}
 use Rattle.std.proofs.Common.{sym, ap, ap₂, subst, ◌∙◌, append-nil, arith, drop_of_length-le, take_all}
-use Rattle.std.proofs.Math.Option.{Option, none, some}
 use Rattle.node.specs.declared.Node.{Node}
+use Rattle.refusals.specs.declared.Refusal.{Refusal}
+use Rattle.steps.specs.declared.Beginning.{Beginning}
 use Rattle.steps.specs.declared.Step.{Step}
 use Rattle.steps.specs.declared.Step.TheVariants.{Start, Tick, AtNode, Life, AtBreaker}
 use Rattle.site.specs.declared.Site.{Site}
-use Rattle.site.specs.declared.Answer.{Answer}
-use Rattle.site.specs.declared.Answer.TheVariants.{Done, Refused}
-use Rattle.refusing.specs.laws.Accepted.{Passes, begins, happens, turns}
 use Rattle.effects.specs.Effects.{effect_of}
+use Rattle.refusing.specs.laws.Accepted.{Passes, begins, happens, turns}
 use Rattle.stepping.specs.laws.StepLaws.{by_tests}
-use Rattle.site.specs.Answers.{is_done}
+use Rattle.site.specs.Answers.{is_done, Answer}
+use Rattle.site.specs.Site.{nodes}
 use Rattle.lent.specs.Lent.{record_of, out_of, table_after, Said, SaidWithin}
+use Rattle.lent.specs.laws.InTurn.{begins_by}
 use Rattle.steps.specs.Named.{named}
-use Rattle.lent.specs.laws.InTurn.{starts_of, begins_of}
 
--- ---- a step that is done names a node of the table, or none
+-- ---- a step that is done names a node of the table, or None
 
 abbrev pub Within : Option ℕ → ℕ → Type 0
-Within none lent = Unit {0}
-Within (some i) lent = i < lent
+Within None lent = Unit {0}
+Within (Some i) lent = i < lent
 
 pub named-within : (site : Site) (lent : ℕ) (node : Node) (step : Step) → Passes site lent node step → Within (named step).actor lent
 named-within site lent node (Start b) e = tt
@@ -30,7 +30,7 @@ named-within site lent node (Life i turn) e = (turns site lent node i turn e).is
 named-within site lent node (AtBreaker t act) e = tt
 
 -- "a step that names a node" with no record is refused
-pub named-refused : (site : Site) (records : List Node) (step : Step) (i : ℕ) → (named step).actor ≡ some i → length records ≤ i → is_done (out_of site records step).answer ≡ false
+pub named-refused : (site : Site) (records : List Node) (step : Step) (i : ℕ) → (named step).actor ≡ Some i → length records ≤ i → is_done (out_of site records step).answer ≡ false
 unfolding out_of
 named-refused site records step i is past =
     by_tests (λ out. is_done out.answer ≡ false) site (length records) (record_of (named step).actor records) step
@@ -39,26 +39,34 @@ named-refused site records step i is past =
 
 -- ---- a Start that is done has its records in the table
 
-starts-within : (site : Site) (lent : ℕ) (node : Node) (step : Step) → Passes site lent node step → starts_of step ≤ lent
+-- as many records as a Start makes
+abbrev pub Room : Option Beginning → ℕ → Type 0
+Room None lent = Unit {0}
+Room (Some b) lent = nodes b.f b.k ≤ lent
+
+pub starts-within : (site : Site) (lent : ℕ) (node : Node) (step : Step) → Passes site lent node step → Room (named step).beginning lent
 starts-within site lent node (Start b) e = (begins site lent node b e).lends
-starts-within site lent node Tick e = omega arith
-starts-within site lent node (AtNode i t event) e = omega arith
-starts-within site lent node (Life i turn) e = omega arith
-starts-within site lent node (AtBreaker t act) e = omega arith
+starts-within site lent node Tick e = tt
+starts-within site lent node (AtNode i t event) e = tt
+starts-within site lent node (Life i turn) e = tt
+starts-within site lent node (AtBreaker t act) e = tt
 
-begins-le : (answer : Answer) (step : Step) → begins_of answer step ≤ starts_of step
-begins-le (Done sent) step = omega arith
-begins-le (Refused number) step = omega arith
+pub begins-le : (answer : Answer) (beginning : Option Beginning) (lent : ℕ) → Room beginning lent → begins_by answer beginning ≤ lent
+begins-le answer None lent room = omega arith
+begins-le (Ok sent) (Some b) lent room = room
+begins-le (Err refusal) (Some b) lent room = omega arith
 
-pub begins-within : (site : Site) (records : List Node) (step : Step) → begins_of (out_of site records step).answer step ≤ length records
+pub refused-begins : (refusal : Refusal) (beginning : Option Beginning) (lent : ℕ) → begins_by (Err refusal) beginning ≤ lent
+refused-begins refusal None lent = omega arith
+refused-begins refusal (Some b) lent = omega arith
+
+pub begins-within : (site : Site) (records : List Node) (step : Step) → begins_by (out_of site records step).answer (named step).beginning ≤ length records
 unfolding out_of
 begins-within site records step =
-    by_tests (λ out. begins_of out.answer step ≤ length records) site (length records) (record_of (named step).actor records) step
-    (λ e.
-    let least = begins-le (effect_of site (record_of (named step).actor records) step).answer step in
-    let most = starts-within site (length records) (record_of (named step).actor records) step e in
-    omega (arith, least, most))
-    (λ number. omega arith)
+    let node = record_of (named step).actor records in
+    by_tests (λ out. begins_by out.answer (named step).beginning ≤ length records) site (length records) node step
+    (λ e. begins-le (effect_of site node step).answer (named step).beginning (length records) (starts-within site (length records) node step e))
+    (λ refusal. refused-begins refusal (named step).beginning (length records))
 
 -- ---- the first records of a table
 

@@ -3,14 +3,14 @@ use Prim.Native.Nat.{ℕ, zero, suc, ◌≤◌, ◌<◌, ◌^◌}
 use Rattle.std.specs.Prelude.{◌≡◌, Bool, cond, leb, length, get_or, set, drop}
 use Rattle.std.proofs.Math.Path.{refl, ap}
 use mathlib.Core.List.{List, [], ◌∷◌, ◌++◌}
-use Rattle.std.proofs.Common.{not-suc-le-zero, le_of_suc-le-suc, le-leb}
+use Rattle.std.proofs.Common.{sym, ◌∙◌, subst, arith, not-suc-le-zero, le_of_suc-le-suc, le-leb}
 use Rattle.std.proofs.lemmas.Bool.{lt-leb}
 use Rattle.tables.specs.Tables.{table}
 use Rattle.senders.proofs.laws.MaskLaws.{in-above}
 use Rattle.node.specs.declared.Node.{Node}
 use Rattle.events.specs.Events.{went_down, went_up}
 use Rattle.effects.specs.Effects.{first_record}
-use Rattle.loans.specs.Loans.{first_records, made_first}
+use Rattle.loans.specs.Loans.{first_by, made_by, first_records, made_first}
 
 -- a mask has no room for a node from 16 on, so none is compromised
 pub first_above : (compromised i : ℕ) → compromised < 2 ^ 16 → 16 ≤ i → first_record compromised i ≡ went_up
@@ -52,26 +52,38 @@ module _ {A : Type 0} where
   pub too_short : (n : ℕ) (l changed : List A) → length l < n → cond (leb n (length l)) changed l ≡ l
   too_short n l changed h = ap (λ (b : Bool). cond b changed l) (lt-leb _ _ h)
 
+-- ---- records of any kind that are made by a rule
+
+module _ {R : Type 0} (rule : ℕ → ℕ → R) (compromised : ℕ) (records : List R) where
+  -- one more is
+  pub first_more : (n : ℕ) → n < length records → set (first_by rule n compromised records) n (rule compromised n) ≡ first_by rule (suc n) compromised records
+  first_more n h = fronted-more n (rule compromised) records h
+
+  -- there are enough records
+  pub made-front : (n : ℕ) → n ≤ length records → made_by rule n compromised records ≡ first_by rule n compromised records
+  unfolding made_by
+  made-front n h = long-enough n records (first_by rule n compromised records) h
+
+  -- none is asked for
+  pub made-no-more : (n : ℕ) → n ≡ 0 → records ≡ made_by rule n compromised records
+  made-no-more n e = subst (λ (m : ℕ). records ≡ made_by rule m compromised records) (sym e) (fronted-none (rule compromised) records ∙ sym (made-front 0 (omega arith)))
+
+  -- there are too few
+  pub made_none : (n : ℕ) → length records < n → made_by rule n compromised records ≡ records
+  unfolding made_by
+  made_none n h = too_short n records (first_by rule n compromised records) h
+
 -- ---- the records of a Start
 
 module _ (compromised : ℕ) (records : List Node) where
-  -- no record is made
   pub begun-none : records ≡ first_records 0 compromised records
   begun-none = fronted-none (first_record compromised) records
 
-  -- one more is
   pub begun_more : (n : ℕ) → n < length records → set (first_records n compromised records) n (first_record compromised n) ≡ first_records (suc n) compromised records
   begun_more n h = fronted-more n (first_record compromised) records h
 
   pub begun-length : (n : ℕ) → n ≤ length records → length (first_records n compromised records) ≡ length records
   begun-length n h = fronted-length n (first_record compromised) records h
 
-  -- there are enough records
   pub made-enough : (n : ℕ) → n ≤ length records → made_first n compromised records ≡ first_records n compromised records
-  unfolding made_first
-  made-enough n h = long-enough n records (first_records n compromised records) h
-
-  -- there are too few
-  pub made_none : (n : ℕ) → length records < n → made_first n compromised records ≡ records
-  unfolding made_first
-  made_none n h = too_short n records (first_records n compromised records) h
+  made-enough = made-front first_record compromised records

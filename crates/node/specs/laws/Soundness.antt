@@ -1,6 +1,6 @@
 -- What refusal 16 asks of a record, in terms of what a node knows, whatever its phase; and what a node that came from a Start has of its second pair, which
 -- is more than 16 asks.
-use Rattle.std.specs.Prelude.{ℕ, ◌≡◌, Bool, ◌&&◌}
+use Rattle.std.specs.Prelude.{ℕ, ◌≡◌, Bool, ◌&&◌, Option, None, Some}
 use Rattle.std.proofs.Math.Path.{refl}
 use Rattle.std.proofs.Math.Bool.{true}
 use Rattle.std.proofs.Common.{le-leb}
@@ -9,8 +9,6 @@ use Rattle.time.specs.Limits.{stamp_sound, clock_sound}
 use Rattle.store.specs.declared.Store.{Store}
 use Rattle.store.specs.Store.{store_within}
 use Rattle.pairs.specs.declared.Pair.{Pair}
-use Rattle.pairs.specs.declared.Known.{Known}
-use Rattle.pairs.specs.declared.Known.TheVariants.{Yes, No}
 use Rattle.pairs.specs.Pair.{is_known}
 use Rattle.node.specs.declared.Phase.{Phase}
 use Rattle.node.specs.declared.Phase.TheVariants.{Down, Starting, Running}
@@ -85,20 +83,20 @@ abbrev pub FollowsIn : Phase → Type 0
 FollowsIn p = Follows (known_second p) (known_b p)
 
 -- so 16 has nothing against it
-below : (second b : Known) → Follows second b → not_above second b ≡ true
-below (Yes second) (Yes b) l = le-leb _ _ l
-below (Yes second) No l = absurd l
-below No (Yes b) l = absurd l
-below No No l = refl
+below : (second b : Option Pair) → Follows second b → not_above second b ≡ true
+below (Some second) (Some b) l = le-leb _ _ l
+below (Some second) None l = absurd l
+below None (Some b) l = absurd l
+below None None l = refl
 
-there : (second : Known) (b : Pair) → Follows second (Yes b) → is_known second ≡ true
-there (Yes second) b l = refl
-there No b l = absurd l
+there : (second : Option Pair) (b : Pair) → Follows second (Some b) → is_known second ≡ true
+there (Some second) b l = refl
+there None b l = absurd l
 
 pub follows-sound : (p : Phase) → FollowsIn p → second_sound p ≡ true
 follows-sound Down l = refl
 follows-sound (Starting learned) l = below learned.second learned.b l
-follows-sound (Running rec) l = simp (there rec.second rec.b l, below rec.second (Yes rec.b) l)
+follows-sound (Running rec) l = simp (there rec.second rec.b l, below rec.second (Some rec.b) l)
 
 -- what a record has that came from a Start: more than 16 asks, since a lent one may have b without a second pair while it starts up, and a second pair
 -- without b

@@ -1,60 +1,92 @@
 -- Laws of what Tests.antt defines.
-use Rattle.std.specs.Prelude.{ℕ, ◌≡◌, refl, Bool, true, false, ◌&&◌, cond, List, [], ◌∷◌, ◌++◌, eqb, ltb}
-use Rattle.std.proofs.Common.{ap, arith, ne_eqb, ltb-true}
+use Rattle.std.specs.Prelude.{ℕ, ◌<◌, ◌≡◌, refl, Bool, true, false, ◌&&◌, cond, List, [], ◌∷◌, ◌++◌, eqb, Result, Ok, Err}
+use Rattle.std.proofs.Common.{arith, sym, ap, ◌∙◌}
 use Rattle.std.proofs.lemmas.Bool.{false≢true}
 use Rattle.std.proofs.Math.Bool.{and-eq-true_iff}
-use Rattle.refusals.specs.Tests.{Test, numbered, or_later, passed, refusal, test_at}
+use Rattle.refusals.specs.declared.Refusal.{Refusal}
+use Rattle.refusals.specs.declared.Refusal.TheVariants.{BadStart, BadNumber, Compromised, WrongPhase, NotNow, ClockBack, NotFresh, NotVouchedFor, NotNew, NotAbove, NotArmed, NotRemembered, TooManyDown, LastClock, Unsound, Malformed}
+use Rattle.refusals.specs.Numbers.{number}
+use Rattle.refusals.specs.Tests.{Test, number_in, or_later, passed, refusal, test_at}
 
-not-zero : (k : ℕ) → ltb 0 k ≡ true → k ≡ 0 → ⊥
-not-zero k h e = omega (arith, ltb-true 0 k h)
+-- No refusal has the number 0, which means done.
+pub numbered : (refusal : Refusal) → 0 < number refusal
+numbered BadStart = omega arith
+numbered BadNumber = omega arith
+numbered Compromised = omega arith
+numbered WrongPhase = omega arith
+numbered NotNow = omega arith
+numbered ClockBack = omega arith
+numbered NotFresh = omega arith
+numbered NotVouchedFor = omega arith
+numbered NotNew = omega arith
+numbered NotAbove = omega arith
+numbered NotArmed = omega arith
+numbered NotRemembered = omega arith
+numbered TooManyDown = omega arith
+numbered LastClock = omega arith
+numbered Unsound = omega arith
+numbered Malformed = omega arith
 
--- Every test is passed exactly where the refusal is 0.
-pub passed-done : (ts : List Test) → passed ts ≡ true → refusal ts ≡ 0
+-- An answer has the number 0 exactly where it is not a refusal.
+pub done-ok : (answer : Result (Unit {0}) Refusal) → number_in answer ≡ 0 → answer ≡ Ok tt
+done-ok (Ok tt) e = refl
+done-ok (Err refusal) e = absurd (omega (arith, numbered refusal, e))
+
+-- Every test is passed exactly where there is no refusal.
+pub passed-done : (ts : List Test) → passed ts ≡ true → refusal ts ≡ Ok tt
 unfolding refusal passed
 passed-done [] e = refl
 passed-done (t ∷ ts) e = go t.1 e (passed-done ts)
   where
-    go : (b : Bool) → (b && passed ts) ≡ true → (passed ts ≡ true → refusal ts ≡ 0) → cond b (refusal ts) t.0 ≡ 0
+    go : (b : Bool) → (b && passed ts) ≡ true → (passed ts ≡ true → refusal ts ≡ Ok tt) → cond b (refusal ts) (Err t.0) ≡ Ok tt
     go true e ih = ih e
     go false e ih = absurd (false≢true e)
 
-pub done-passed : (ts : List Test) → numbered ts ≡ true → refusal ts ≡ 0 → passed ts ≡ true
+pub done-passed : (ts : List Test) → refusal ts ≡ Ok tt → passed ts ≡ true
 unfolding refusal passed
-done-passed [] n e = refl
-done-passed (t ∷ ts) n e = go t.1 e (done-passed ts ((and-eq-true_iff (ltb 0 t.0) (numbered ts)).0 n).1)
+done-passed [] e = refl
+done-passed (t ∷ ts) e = go t.1 e (done-passed ts)
   where
-    go : (b : Bool) → cond b (refusal ts) t.0 ≡ 0 → (refusal ts ≡ 0 → passed ts ≡ true) → (b && passed ts) ≡ true
+    go : (b : Bool) → cond b (refusal ts) (Err t.0) ≡ Ok tt → (refusal ts ≡ Ok tt → passed ts ≡ true) → (b && passed ts) ≡ true
     go true e ih = ih e
-    go false e ih = absurd (not-zero t.0 ((and-eq-true_iff (ltb 0 t.0) (numbered ts)).0 n).0 e)
+    go false e ih = cc
 
--- Where the refusal is 0, the test with any number is passed.
-pub each-passed : (k : ℕ) (ts : List Test) → numbered ts ≡ true → refusal ts ≡ 0 → test_at k ts ≡ true
+-- Where there is no refusal, the test with any number is passed.
+pub each-passed : (k : ℕ) (ts : List Test) → refusal ts ≡ Ok tt → test_at k ts ≡ true
 unfolding passed
-each-passed k ts n e = within ts (done-passed ts n e)
+each-passed k ts e = within ts (done-passed ts e)
   where
     within : (ts : List Test) → passed ts ≡ true → test_at k ts ≡ true
     within [] h = refl
     within (t ∷ ts) h =
         let both = (and-eq-true_iff t.1 (passed ts)).0 h in
-        one (eqb t.0 k) both.0 (within ts both.1)
+        one (eqb (number t.0) k) both.0 (within ts both.1)
       where
         one : (x : Bool) → t.1 ≡ true → test_at k ts ≡ true → cond x t.1 (test_at k ts) ≡ true
         one true here later = here
         one false here later = later
 
--- Two lists of tests, one after the other.
-pub appended : (ts us : List Test) → numbered ts ≡ true → or_later (refusal ts) (refusal us) ≡ refusal (ts ++ us)
+-- Two lists of tests, one after the other: the refusal of the first, or where that is passed, of the second.
+pub appended : (ts us : List Test) → or_later (refusal ts) (refusal us) ≡ refusal (ts ++ us)
 unfolding refusal or_later
-appended [] us n = refl
-appended (t ∷ ts) us n = go t.1 (appended ts us ((and-eq-true_iff (ltb 0 t.0) (numbered ts)).0 n).1)
+appended [] us = refl
+appended (t ∷ ts) us = go t.1 (appended ts us)
   where
     go : (b : Bool) → or_later (refusal ts) (refusal us) ≡ refusal (ts ++ us)
-        → or_later (cond b (refusal ts) t.0) (refusal us) ≡ cond b (refusal (ts ++ us)) t.0
+        → or_later (cond b (refusal ts) (Err t.0)) (refusal us) ≡ cond b (refusal (ts ++ us)) (Err t.0)
     go true ih = ih
-    go false ih = ap (λ (b : Bool). cond b (refusal us) t.0) (ne_eqb t.0 0 (not-zero t.0 ((and-eq-true_iff (ltb 0 t.0) (numbered ts)).0 n).0))
+    go false ih = refl
 
--- Two tests with one number are one test.
-pub one_number : (number : ℕ) (a b : Bool) (ts : List Test) → refusal ((number, a) ∷ (number, b) ∷ ts) ≡ refusal ((number, a && b) ∷ ts)
+pub fails : (ts us : List Test) {fault : Refusal} → refusal ts ≡ Err fault → refusal (ts ++ us) ≡ Err fault
+unfolding or_later
+fails ts us e = sym (appended ts us) ∙ ap (λ (answer : Result (Unit {0}) Refusal). or_later answer (refusal us)) e
+
+pub goes_on : (ts us : List Test) {done : Unit {0}} → refusal ts ≡ Ok done → refusal (ts ++ us) ≡ refusal us
+unfolding or_later
+goes_on ts us e = sym (appended ts us) ∙ ap (λ (answer : Result (Unit {0}) Refusal). or_later answer (refusal us)) e
+
+-- Two tests with one refusal are one test.
+pub one_number : (fault : Refusal) (a b : Bool) (ts : List Test) → refusal ((fault, a) ∷ (fault, b) ∷ ts) ≡ refusal ((fault, a && b) ∷ ts)
 unfolding refusal
-one_number number true b ts = refl
-one_number number false b ts = refl
+one_number fault true b ts = refl
+one_number fault false b ts = refl

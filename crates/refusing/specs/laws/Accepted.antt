@@ -1,9 +1,9 @@
 -- What the tests of an accepted step say: each row of the table by its number, and the rows that steps of one shape have in common.
-use Rattle.std.specs.Prelude.{ℕ, ◌+◌, ◌≤◌, ◌<◌, ◌≡◌, Bool, true, false, not, ◌&&◌, ◌||◌, eqb, leb}
+use Rattle.std.specs.Prelude.{ℕ, ◌+◌, ◌≤◌, ◌<◌, ◌≡◌, Bool, true, false, not, ◌&&◌, ◌||◌, eqb, leb, Ok}
 use Rattle.std.proofs.Math.Path.{refl}
 use Rattle.std.proofs.Common.{sym, ◌∙◌, arith, ltb-true, leb-true, eqb-true}
 use Rattle.std.proofs.lemmas.Bool.{eqb-false, not-true}
-use Rattle.refusals.specs.Tests.{refusal, numbered, test_at}
+use Rattle.refusals.specs.Tests.{refusal, test_at}
 use Rattle.refusals.specs.laws.Tests.{each-passed}
 use Rattle.refusals.specs.laws.Bools.{left, right, or-false}
 use Rattle.time.specs.declared.Dts.{Dts}
@@ -27,17 +27,12 @@ use Rattle.refusing.specs.Tests.{is_now, is_status, is_node, node_clock, are_in_
 
 module _ (site : Site) (lent : ℕ) (node : Node) (step : Step) where
   abbrev pub Passes : Type 0
-  Passes = refusal (tests_of site lent node step) ≡ 0
-
-  -- no row has the number 0
-  pub tests-numbered : numbered (tests_of site lent node step) ≡ true
-  unfolding tests_of
-  tests-numbered = refl
+  Passes = refusal (tests_of site lent node step) ≡ Ok tt
 
   -- row k is passed
   pub row-passed : (k : ℕ) → Passes → test_at k (table_for site lent node (named step)) ≡ true
   unfolding tests_of
-  row-passed k e = each-passed k (table_for site lent node (named step)) refl e
+  row-passed k e = each-passed k (table_for site lent node (named step)) e
 
 -- a Start: row 1
 pub record Begins (lent : ℕ) (b : Beginning) : Type 0 where

@@ -1,10 +1,13 @@
 -- What the functions inside this crate promise: the table, cut as the code goes through it.
-use Rattle.std.specs.Prelude.{ℕ, ◌+◌, ◌≡◌, Bool, true, false, not, ◌&&◌, ◌||◌, cond, List, [], ◌∷◌, ◌++◌, eqb, leb, ltb}
+use Rattle.std.specs.Prelude.{ℕ, ◌+◌, ◌≡◌, Bool, true, false, not, ◌&&◌, ◌||◌, cond, List, [], ◌∷◌, ◌++◌, eqb, leb, ltb, Result, Ok, Err}
 use Rattle.std.proofs.Math.Path.{refl}
 use Rattle.std.proofs.Common.{sym, ap, ap₂, ◌∙◌}
 use Rattle.std.proofs.lemmas.Bool.{false≢true}
+use Rattle.refusals.specs.declared.Refusal.{Refusal}
+use Rattle.refusals.specs.declared.Refusal.TheVariants.{BadStart, BadNumber, Compromised, WrongPhase, NotNow, ClockBack, NotFresh, NotVouchedFor, NotNew, NotAbove, NotArmed, NotRemembered, TooManyDown, LastClock, Unsound}
 use Rattle.refusals.specs.Tests.{Test, refusal}
 use Rattle.refusals.specs.laws.Bools.{and-true, and_assoc, or-false}
+use Rattle.refusals.specs.laws.Tests.{fails, goes_on}
 use Rattle.time.specs.declared.Dts.{Dts}
 use Rattle.time.specs.Fresh.{fresh, next}
 use Rattle.senders.specs.Masks.{is_in, size}
@@ -30,32 +33,32 @@ use Rattle.refusing.specs.Tests.{is_now, is_node, is_status, verdict, can_delive
 -- 2, 3 and 4 of a step at a node
 abbrev pub who_tests : Site → ℕ → Bool → Bool → List Test
 who_tests site i fields phase =
-    (2, is_node site i && fields)
-    ∷ (3, not (is_in site.compromised i))
-    ∷ (4, phase)
+    (BadNumber, is_node site i && fields)
+    ∷ (Compromised, not (is_in site.compromised i))
+    ∷ (WrongPhase, phase)
     ∷ []
 
 -- 5 and 6
 abbrev pub when_tests : Site → Node → Dts → List Test
-when_tests site node t = (5, is_now site t) ∷ (6, leb (node_clock node).0 t.0) ∷ []
+when_tests site node t = (NotNow, is_now site t) ∷ (ClockBack, leb (node_clock node).0 t.0) ∷ []
 
 abbrev pub share_tests : Site → Dts → ℕ → ℕ → Dts → List Test
-share_tests site t sender status T = (7, fresh T t) ∷ (8, can_deliver site sender status T) ∷ []
+share_tests site t sender status T = (NotFresh, fresh T t) ∷ (NotVouchedFor, can_deliver site sender status T) ∷ []
 
 abbrev pub pair_tests : Site → Dts → ℕ → ℕ → Dts → List Test
 pair_tests site t sender status T =
-    (7, fresh T t || fresh (next T) t)
-    ∷ (8, (not (fresh T t) || can_deliver site sender status T) && (not (fresh (next T) t) || can_deliver site sender status (next T)))
+    (NotFresh, fresh T t || fresh (next T) t)
+    ∷ (NotVouchedFor, (not (fresh T t) || can_deliver site sender status T) && (not (fresh (next T) t) || can_deliver site sender status (next T)))
     ∷ []
 
 -- what is asked of one event, turn or act alone
 abbrev pub event_tests : Site → Node → Dts → Event → List Test
-event_tests site node t (Report status number) = (9, is_new node number) ∷ []
+event_tests site node t (Report status number) = (NotNew, is_new node number) ∷ []
 event_tests site node t (Deliver sender status T) = share_tests site t sender status T
 event_tests site node t (DeliverPair sender status T) = pair_tests site t sender status T
-event_tests site node t ShareTimeout = (12, in_attempt node) ∷ []
-event_tests site node t ResendTimeout = (12, armed node) ∷ []
-event_tests site node t (Ack back) = (13, leb (back + 1) site.breaker.changes.count) ∷ []
+event_tests site node t ShareTimeout = (NotArmed, in_attempt node) ∷ []
+event_tests site node t ResendTimeout = (NotArmed, armed node) ∷ []
+event_tests site node t (Ack back) = (NotRemembered, leb (back + 1) site.breaker.changes.count) ∷ []
 event_tests site node t Query = []
 
 abbrev pub asked : Site → Node → Dts → Event → Asked
@@ -67,25 +70,25 @@ asked site node t event =
     }
 
 abbrev pub turn_tests : Site → Turn → List Test
-turn_tests site Down = (14, ltb (size site.down) site.k) ∷ []
+turn_tests site Down = (TooManyDown, ltb (size site.down) site.k) ∷ []
 turn_tests site Up = []
 
 abbrev pub command_first : Site → Dts → ℕ → List Test
 command_first site t status =
-    (2, is_status status) ∷ (5, is_now site t) ∷ (6, leb site.breaker.clock.0 t.0) ∷ []
+    (BadNumber, is_status status) ∷ (NotNow, is_now site t) ∷ (ClockBack, leb site.breaker.clock.0 t.0) ∷ []
 
 abbrev pub command_last : Site → Dts → ℕ → Dts → List Test
 command_last site t status T =
-    (7, fresh T t)
-    ∷ (8, verdict site status T)
-    ∷ (11, repeats site.breaker status || ltb site.breaker.pair.stamp.0 T.0)
+    (NotFresh, fresh T t)
+    ∷ (NotVouchedFor, verdict site status T)
+    ∷ (NotAbove, repeats site.breaker status || ltb site.breaker.pair.stamp.0 T.0)
     ∷ []
 
 abbrev pub act_tests : Site → Dts → Act → List Test
 act_tests site t act = command_first site t act.status ++ command_last site t act.status act.stamp
 
 abbrev pub tick_tests : Site → List Test
-tick_tests site = (15, not (eqb (g site).0 last_g)) ∷ []
+tick_tests site = (LastClock, not (eqb (g site).0 last_g)) ∷ []
 
 -- what is left of a step's tests after 16; a Start has none of these
 abbrev pub sound_tests : Site → Node → Step → List Test
@@ -100,7 +103,7 @@ sound_tests site node (AtBreaker t act) = act_tests site t act
 
 -- a step's tests, with a verdict of 16 that is given
 abbrev pub given_tests : Bool → Site → Node → Step → List Test
-given_tests sound site node step = (16, sound) ∷ sound_tests site node step
+given_tests sound site node step = (Unsound, sound) ∷ sound_tests site node step
 
 -- ---- what 2 asks of an event's fields, and 4 of a node's phase, as the code asks it
 
@@ -155,7 +158,7 @@ not-down (Running rec) event e = refl
 -- ---- that the cut gives the table's refusal
 
 -- 8 is asked of a share that is fresh: after 7, of any share alone
-pub if-fresh : (fresh made : Bool) (a b k : ℕ) → cond fresh (cond (not fresh || made) a b) k ≡ cond fresh (cond made a b) k
+pub if-fresh : {A : Type 0} (fresh made : Bool) (a b k : A) → cond fresh (cond (not fresh || made) a b) k ≡ cond fresh (cond made a b) k
 if-fresh true made a b k = refl
 if-fresh false made a b k = refl
 
@@ -188,9 +191,9 @@ module _ (site : Site) (lent : ℕ) (node : Node) where
   rest-tick = refl
 
 -- 16 in front of tests that refuse alike, with its verdict in another form
-pub sixteen-first : (sound verdict : Bool) (ts us : List Test) → sound ≡ verdict → refusal ts ≡ refusal us → refusal ((16, sound) ∷ ts) ≡ refusal ((16, verdict) ∷ us)
+pub sixteen-first : (sound verdict : Bool) (ts us : List Test) → sound ≡ verdict → refusal ts ≡ refusal us → refusal ((Unsound, sound) ∷ ts) ≡ refusal ((Unsound, verdict) ∷ us)
 unfolding refusal
-sixteen-first sound verdict ts us is e = ap₂ (λ (x : Bool) (k : ℕ). cond x k 16) is e
+sixteen-first sound verdict ts us is e = ap₂ (λ (x : Bool) (rest : Result (Unit {0}) Refusal). cond x rest (Err Unsound)) is e
 
 -- so with the table's verdict it is the table's
 module _ (site : Site) (lent : ℕ) (node : Node) where
@@ -213,7 +216,36 @@ module _ (site : Site) (lent : ℕ) (node : Node) where
   pub cut-tick : Cut Tick
   cut-tick = cut_by Tick (rest-tick site lent node)
 
+-- the refusal of an event: that of the first of its parts that is not passed, with what is asked of it as the code has it
+module _ (sound : Bool) (site : Site) (node : Node) (i : ℕ) (t : Dts) (event : Event) (own : Asked) (is : own ≡ asked site node t event)
+    {u : Unit {0}} (whole : Ok u ≡ refusal ((Unsound, sound) ∷ [])) where
+  abbrev all : Result (Unit {0}) Refusal
+  all = refusal (given_tests sound site node (AtNode i t event))
+
+  abbrev of_who : List Test
+  of_who = who_tests site i (are_in_range site (said_by event)) (phase_takes node.phase (said_by event).kind)
+
+  abbrev later : List Test
+  later = when_tests site node t ++ event_tests site node t event
+
+  as-asked : refusal (who_tests site i own.fields own.phase) ≡ refusal of_who
+  as-asked = ap (λ (x : Asked). refusal (who_tests site i x.fields x.phase)) is
+
+  pub stops-at-who : {fault : Refusal} → Err fault ≡ refusal (who_tests site i own.fields own.phase) → Err fault ≡ all
+  stops-at-who e = sym (goes_on ((Unsound, sound) ∷ []) (of_who ++ later) (sym whole) ∙ fails of_who later (sym (e ∙ as-asked)))
+
+  after-who : {v : Unit {0}} → Ok v ≡ refusal (who_tests site i own.fields own.phase) → all ≡ refusal later
+  after-who e = goes_on ((Unsound, sound) ∷ []) (of_who ++ later) (sym whole) ∙ goes_on of_who later (sym (e ∙ as-asked))
+
+  pub stops-at-when : {v : Unit {0}} {fault : Refusal} → Ok v ≡ refusal (who_tests site i own.fields own.phase) → Err fault ≡ refusal (when_tests site node t)
+      → Err fault ≡ all
+  stops-at-when e f = sym (after-who e ∙ fails (when_tests site node t) (event_tests site node t event) (sym f))
+
+  pub its-own : {v w : Unit {0}} → Ok v ≡ refusal (who_tests site i own.fields own.phase) → Ok w ≡ refusal (when_tests site node t) → own.own ≡ all
+  its-own e f =
+      ap (λ (x : Asked). x.own) is ∙ sym (after-who e ∙ goes_on (when_tests site node t) (event_tests site node t event) (sym f))
+
 -- a Start has row 1 alone
-pub start-alone : (site : Site) (lent : ℕ) (node : Node) (b : Beginning) → refusal ((1, can_begin lent b) ∷ []) ≡ refusal (tests_of site lent node (Start b))
+pub start-alone : (site : Site) (lent : ℕ) (node : Node) (b : Beginning) → refusal ((BadStart, can_begin lent b) ∷ []) ≡ refusal (tests_of site lent node (Start b))
 unfolding tests_of refusal
 start-alone site lent node b = refl

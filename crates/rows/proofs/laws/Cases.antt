@@ -1,7 +1,8 @@
 -- What each row's test tells, and so which number a step is answered with.
 use Rattle.std.specs.Prelude.{ℕ, ◌+◌, ◌-◌, ◌≤◌, ◌<◌, ◌≡◌, refl, true, not, ◌&&◌, ◌↔◌, ◌⊎◌, leb}
 use Rattle.std.proofs.Common.{sym, ◌∙◌, true≢false, arith, le-leb, leb-true}
-use Rattle.refusals.specs.Tests.{refusal, test_at}
+use Rattle.refusals.specs.declared.Refusal.TheVariants.{BadStart, BadNumber, Compromised, WrongPhase, NotNow, ClockBack, NotFresh, NotVouchedFor, NotNew, NotAbove, NotArmed, NotRemembered, TooManyDown, LastClock, Unsound}
+use Rattle.refusals.specs.Tests.{number_in, refusal, test_at}
 use Rattle.refusals.specs.laws.Bools.{and_assoc, left, right}
 use Rattle.time.specs.declared.Dts.{Dts}
 use Rattle.time.specs.Fresh.{fresh}
@@ -103,31 +104,31 @@ stale-tells T t = worded (near, far) (negated (fresh T t))
 pub later-rows-tell : (site : Site) (lent : ℕ) (node : Node) (the : Named) → Tell (rows_for site lent node the) (later_rows site lent node the)
 later-rows-tell site lent node the =
     let said = the.said in
-    also 1 (of-named the.beginning (begin-tells lent))
-    (also 2
+    also BadStart (of-named the.beginning (begin-tells lent))
+    (also BadNumber
     (of-named the.actor (λ i. from i (n site))
     or of-named said.sender (λ i. from i (n site))
     or of-named said.status (λ A. above A 1)
     or of-named said.back (λ back. above back 7)
     or of-named (paired said.stamps) (λ T. equal T.0 top_stamp))
-    (also 3 (of-named the.actor λ i. negated (is_in site.compromised i))
-    (also 4 (of-named the.actor λ i. itself (phase_takes node.phase said.kind))
-    (also 5 (of-named the.clock λ t. other t.0 (g site).0 and other t.0 ((g site).0 + 1))
-    (also 6 (of-named the.clock λ t. above (last_clock site node the.actor).0 t.0)
-    (also 7 (of-named the.clock λ t. of-one said.stamps λ T. fresh-tells T t)
-    (also 8
+    (also Compromised (of-named the.actor λ i. negated (is_in site.compromised i))
+    (also WrongPhase (of-named the.actor λ i. itself (phase_takes node.phase said.kind))
+    (also NotNow (of-named the.clock λ t. other t.0 (g site).0 and other t.0 ((g site).0 + 1))
+    (also ClockBack (of-named the.clock λ t. above (last_clock site node the.actor).0 t.0)
+    (also NotFresh (of-named the.clock λ t. of-one said.stamps λ T. fresh-tells T t)
+    (also NotVouchedFor
     ((of-named the.clock λ t. of-named said.sender λ i. of-named said.status λ A. of-each said.stamps λ T.
     stale-tells T t and itself (is_in site.compromised i) and itself (held site.made A T i))
     or kind-is said.kind command and (of-named said.status λ A. of-each said.stamps λ T. above (site.f + 1) (size (counted site A T))))
-    (also 9 (of-named said.number λ number. new-tells node number)
-    (also 11
+    (also NotNew (of-named said.number λ number. new-tells node number)
+    (also NotAbove
     (kind-is said.kind command and (of-named said.status λ A.
     other A site.breaker.pair.status and (of-each said.stamps λ T. from site.breaker.pair.stamp.0 T.0)))
-    (also 12
+    (also NotArmed
     (kind-is said.kind share_timeout and in-attempt-tells node or kind-is said.kind resend_timeout and armed-tells node)
-    (also 13 (of-named said.back λ back. above (back + 1) site.breaker.changes.count)
-    (also 14 (kind-is said.kind down and from (size site.down) site.k)
-    (also 15 (kind-is said.kind tick and equal (g site).0 1_000_000_000)
+    (also NotRemembered (of-named said.back λ back. above (back + 1) site.breaker.changes.count)
+    (also TooManyDown (kind-is said.kind down and from (size site.down) site.k)
+    (also LastClock (kind-is said.kind tick and equal (g site).0 1_000_000_000)
     no_rows)))))))))))))
 
 module _ (site : Site) (lent : ℕ) (node : Node) (step : Step) where
@@ -135,10 +136,10 @@ module _ (site : Site) (lent : ℕ) (node : Node) (step : Step) where
   rows_tell : Tell (table_for site lent node (named step)) (refusal_table site lent node (named step))
   rows_tell =
       let the = named step in
-      also 16 (no_start the.beginning (site-tells site lent node the or of-named the.actor (λ i. actor-tells site node i (node-tells node (n site)))))
+      also Unsound (no_start the.beginning (site-tells site lent node the or of-named the.actor (λ i. actor-tells site node i (node-tells node (n site)))))
       (later-rows-tell site lent node the)
 
-  number : answered_with site lent node step ≡ refusal (table_for site lent node (named step))
+  number : answered_with site lent node step ≡ number_in (refusal (table_for site lent node (named step)))
   unfolding tests_of
   number = answered-is site lent node step
 

@@ -1,5 +1,6 @@
 -- What row 16's tests of a store, of the changes and of a phase tell, and those of rows 9 and 12 of a phase.
-use Rattle.std.specs.Prelude.{ℕ, zero, suc, ◌<◌, ◌≡◌, refl, Bool, true, false, ◌&&◌, ◌⊎◌}
+use Rattle.std.specs.Prelude.{ℕ, zero, suc, ◌<◌, ◌≡◌, refl, Bool, true, false, ◌&&◌, ◌⊎◌, Option, Some, None}
+use Rattle.time.specs.declared.Dts.{Dts}
 use Rattle.std.proofs.Common.{sym, ap, ◌∙◌, true≢false, inl, inr, not-suc-le-zero, arith}
 use Rattle.refusals.specs.laws.Bools.{and_assoc}
 use Rattle.time.specs.Newer.{ahead, newer}
@@ -8,12 +9,6 @@ use Rattle.tables.specs.Tables.{table}
 use Rattle.store.specs.declared.Store.{Store}
 use Rattle.store.specs.Store.{places, set_at, all_within, store_within}
 use Rattle.pairs.specs.declared.Pair.{Pair}
-use Rattle.pairs.specs.declared.Known.{Known}
-use Rattle.pairs.specs.declared.Known.TheVariants.{Yes, No}
-use Rattle.node.specs.declared.Last.{Last}
-use Rattle.node.specs.declared.Last.TheVariants.{Number, Unknown}
-use Rattle.node.specs.declared.Resend.{Resend}
-use Rattle.node.specs.declared.Resend.TheVariants.{Armed, Off}
 use Rattle.node.specs.declared.Phase.{Phase}
 use Rattle.node.specs.declared.Phase.TheVariants.{Starting, Running, Down as NotUp}
 use Rattle.node.specs.declared.Node.{Node}
@@ -67,13 +62,13 @@ pub changes-tell : (changes : Changes) → Tells (changes_sound changes) (Change
 unfolding changes_sound
 changes-tell changes = above changes.count 8 or pairs-tell most_changes (pair_at changes)
 
-pub known_tells : (k : Known) → Tells (known_sound k) (KnownTooLate k)
-known_tells (Yes p) = above p.stamp.0 last_held_stamp
-known_tells No = (λ e. absurd (true≢false e), absurd)
+pub known_tells : (k : Option Pair) → Tells (known_sound k) (KnownTooLate k)
+known_tells (Some p) = above p.stamp.0 last_held_stamp
+known_tells None = (λ e. absurd (true≢false e), absurd)
 
-resend-tells : (r : Resend) → Tells (resend_sound r) (ResendTooLate r)
-resend-tells (Armed T) = above T.0 last_held_stamp
-resend-tells Off = (λ e. absurd (true≢false e), absurd)
+resend-tells : (r : Option Dts) → Tells (resend_sound r) (ResendTooLate r)
+resend-tells (Some T) = above T.0 last_held_stamp
+resend-tells None = (λ e. absurd (true≢false e), absurd)
 
 nothing-told : Tells true ⊥
 nothing-told = (λ e. absurd (true≢false e), absurd)
@@ -88,19 +83,19 @@ phase-tells (Running rec) =
     ∙ and_assoc (stamp_sound rec.r.stamp) (stamp_sound rec.b.stamp) (resend_sound rec.resend && known_sound rec.second))
     (above rec.r.stamp.0 last_held_stamp or above rec.b.stamp.0 last_held_stamp or resend-tells rec.resend or known_tells rec.second)
 
-above-tells : (second b : Known) → Tells (not_above second b) (SecondAbove second b)
-above-tells (Yes second) (Yes b) = above second.stamp.0 b.stamp.0
-above-tells (Yes second) No = nothing-told
-above-tells No b = nothing-told
+above-tells : (second b : Option Pair) → Tells (not_above second b) (SecondAbove second b)
+above-tells (Some second) (Some b) = above second.stamp.0 b.stamp.0
+above-tells (Some second) None = nothing-told
+above-tells None b = nothing-told
 
-none-tells : (second : Known) → Tells (is_known second) (NoSecond second)
-none-tells (Yes second) = nothing-told
-none-tells No = (λ e. tt, λ h. refl)
+none-tells : (second : Option Pair) → Tells (is_known second) (NoSecond second)
+none-tells (Some second) = nothing-told
+none-tells None = (λ e. tt, λ h. refl)
 
 second-tells : (p : Phase) → Tells (second_sound p) (SecondOutOfOrder p)
 second-tells NotUp = nothing-told
 second-tells (Starting l) = above-tells l.second l.b
-second-tells (Running rec) = none-tells rec.second or above-tells rec.second (Yes rec.b)
+second-tells (Running rec) = none-tells rec.second or above-tells rec.second (Some rec.b)
 
 -- for a node by its phase and its store
 module _ (s : Store) where
@@ -129,17 +124,17 @@ module _ (s : Store) where
   resent-tells (Starting l) = (λ e. tt, λ h. refl)
   resent-tells (Running rec) = go rec.resend refl
     where
-      is_off : Resend → Bool
-      is_off (Armed T) = false
-      is_off Off = true
+      is_off : Option Dts → Bool
+      is_off (Some T) = false
+      is_off None = true
 
-      go : (r : Resend) → rec.resend ≡ r → Tells (armed (at (Running (record { r = rec.r; b = rec.b; second = rec.second; number = rec.number; resend = r })))) (r ≡ Off)
-      go (Armed T) e = (λ h. absurd (true≢false h), λ h. absurd (true≢false (sym (ap is_off h))))
-      go Off e = (λ h. refl, λ h. refl)
+      go : (r : Option Dts) → rec.resend ≡ r → Tells (armed (at (Running (record { r = rec.r; b = rec.b; second = rec.second; number = rec.number; resend = r })))) (r ≡ None)
+      go (Some T) e = (λ h. absurd (true≢false h), λ h. absurd (true≢false (sym (ap is_off h))))
+      go None e = (λ h. refl, λ h. refl)
 
-newer-tells : (number : ℕ) (last : Last) → Tells (new_after number last) (NotNewAfter number last)
+newer-tells : (number : ℕ) (last : Option ℕ) → Tells (new_after number last) (NotNewAfter number last)
 unfolding newer
-newer-tells number (Number last) = worded (least, λ h. go h) (above 1 (ahead number last) or above (ahead number last) 2_147_483_647)
+newer-tells number (Some last) = worded (least, λ h. go h) (above 1 (ahead number last) or above (ahead number last) 2_147_483_647)
   where
     least : (ahead number last < 1) ⊎ (2_147_483_647 < ahead number last) → (ahead number last ≡ 0) ⊎ (2_147_483_647 < ahead number last)
     least (inl l) = inl (omega arith)
@@ -148,7 +143,7 @@ newer-tells number (Number last) = worded (least, λ h. go h) (above 1 (ahead nu
     go : (ahead number last ≡ 0) ⊎ (2_147_483_647 < ahead number last) → (ahead number last < 1) ⊎ (2_147_483_647 < ahead number last)
     go (inl e) = inl (omega arith)
     go (inr h) = inr h
-newer-tells number Unknown = (λ e. absurd (true≢false e), absurd)
+newer-tells number None = (λ e. absurd (true≢false e), absurd)
 
 pub new-tells : (node : Node) (number : ℕ) → Tells (is_new node number) (NotNewAfter number (last_number node.phase))
 new-tells node number = newer-tells number (last_number node.phase)

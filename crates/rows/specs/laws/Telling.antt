@@ -1,7 +1,6 @@
 -- Which condition a test tells: laws for each form that a test has.
-use Rattle.std.specs.Prelude.{ℕ, ◌≤◌, ◌<◌, ◌≡◌, refl, Bool, true, false, not, ◌&&◌, ◌||◌, ◌↔◌, ◌⊎◌, List, [], ◌∷◌, eqb, leb, ltb}
+use Rattle.std.specs.Prelude.{ℕ, ◌≤◌, ◌<◌, ◌≡◌, refl, Bool, true, false, not, ◌&&◌, ◌||◌, ◌↔◌, ◌⊎◌, List, [], ◌∷◌, eqb, leb, ltb, Option, None, Some}
 use Rattle.std.proofs.Common.{sym, ◌∙◌, true≢false, inl, inr, ltb-false, le-ltb, leb-false, eqb-true, eq-eqb, ne_eqb}
-use Rattle.std.proofs.Math.Option.{Option, some, none}
 use Rattle.std.proofs.lemmas.Bool.{lt-leb, eqb-false, not-false}
 use Rattle.rows.specs.Exactly.{Tells}
 use Rattle.steps.specs.declared.Beginning.{Beginning}
@@ -62,8 +61,8 @@ worded iff tells = (λ h. iff.0 (tells.0 h), λ d. tells.1 (iff.1 d))
 
 -- of what a step may name
 pub of-named : {A : Type 0} (o : Option A) {p : A → Bool} {P : A → Type 0} → ((a : A) → Tells (p a) (P a)) → Tells (of_named o p) (Of o P)
-of-named none tells = (true≢false, absurd)
-of-named (some a) tells = tells a
+of-named None tells = (true≢false, absurd)
+of-named (Some a) tells = tells a
 
 pub of-each : {A : Type 0} (l : List A) {p : A → Bool} {P : A → Type 0} → ((a : A) → Tells (p a) (P a)) → Tells (of_each l p) (OneOf l P)
 of-each [] tells = (true≢false, absurd)
@@ -87,5 +86,5 @@ kind-is a b = go (Kind-discrete a b)
 
 -- any step but Start
 pub no_start : (b : Option Beginning) {test : Bool} {C : Type 0} → Tells test C → Tells (unless_start b test) (NoStart b × C)
-no_start (some b) tells = (λ e. absurd (true≢false e), λ h. absurd h.0)
-no_start none tells = (λ e. (tt, tells.0 e), λ h. tells.1 h.1)
+no_start (Some b) tells = (λ e. absurd (true≢false e), λ h. absurd h.0)
+no_start None tells = (λ e. (tt, tells.0 e), λ h. tells.1 h.1)

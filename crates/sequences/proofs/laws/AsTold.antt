@@ -1,18 +1,16 @@
 -- The state is the history's, and a refused step changes nothing.
-use Rattle.std.specs.Prelude.{ℕ, ◌≡◌, refl, Bool, true, false, ◌&&◌, ◌||◌, cond, List, [], ◌∷◌, length}
+use Rattle.std.specs.Prelude.{ℕ, ◌≡◌, refl, Bool, true, false, ◌&&◌, ◌||◌, cond, List, [], ◌∷◌, length, Some, Ok, Err}
 use Rattle.std.proofs.Common.{sym, ap, subst, ◌∙◌, eqb-true}
 use Rattle.std.proofs.lemmas.Bool.{false≢true}
-use Rattle.std.proofs.Math.Option.{some}
+use Rattle.refusals.specs.declared.Refusal.{Refusal}
 use Rattle.time.specs.declared.Dts.{Dts}
 use Rattle.time.specs.Fresh.{fresh_at, fresh}
 use Rattle.store.specs.declared.Store.{Store}
 use Rattle.store.specs.Held.{held}
 use Rattle.store.proofs.laws.Held.{held-empty}
 use Rattle.pairs.specs.declared.Pair.{Pair}
-use Rattle.pairs.specs.declared.Known.TheVariants.{Yes}
 use Rattle.pairs.specs.Pair.{has}
 use Rattle.pairs.specs.laws.KnownLaws.{same_known}
-use Rattle.node.specs.declared.Resend.TheVariants.{Armed}
 use Rattle.node.specs.declared.Phase.{Phase}
 use Rattle.node.specs.Asked.{is_running}
 use Rattle.steps.specs.declared.Beginning.{Beginning}
@@ -22,10 +20,8 @@ use Rattle.steps.specs.Named.{report, named, is_kind}
 use Rattle.told.specs.Telling.{known_in}
 use Rattle.told.proofs.laws.Armed.{ArmedAs, ArmedIn}
 use Rattle.site.specs.declared.Sent.{Sent}
-use Rattle.site.specs.declared.Answer.{Answer}
-use Rattle.site.specs.declared.Answer.TheVariants.{Done, Refused}
 use Rattle.site.specs.declared.Out.{Out}
-use Rattle.site.specs.Answers.{silence, is_done}
+use Rattle.site.specs.Answers.{silence, is_done, Answer}
 use Rattle.effects.specs.Effects.{effect_of}
 use Rattle.stepping.specs.laws.StepLaws.{by_tests, effect-done}
 use Rattle.lent.specs.Lent.{record_of, out_of, table_after, table_after_answer}
@@ -39,7 +35,7 @@ use Rattle.sequences.proofs.laws.Reaching.{reached-keeps}
 use Rattle.sequences.proofs.laws.StateTold.{reached-told}
 
 -- a node that does not run holds nothing
-module _ {first : Moment} {h : List Entry} {m : Moment} (r : Reached first h m) (b : Beginning) (q : last_start h ≡ some b) (j : ℕ) (c : Correct b (accepted h) j) where
+module _ {first : Moment} {h : List Entry} {m : Moment} (r : Reached first h m) (b : Beginning) (q : last_start h ≡ Some b) (j : ℕ) (c : Correct b (accepted h) j) where
   runs_so : is_running (node_at m j) ≡ runs (at_node j (accepted h))
   runs_so = runs-told m.site.f j (node_at m j).phase (node_at m j).store (at_node j (accepted h)) ((reached-keeps r b q).fits j c)
 
@@ -86,8 +82,8 @@ state-as-told first h m r b q =
 
 pub resends-b : Always ResendsB
 resends-b first h m r b q j c rec is T armed =
-    let all : ArmedAs (Yes rec.r) (Yes rec.b) (Armed T) =
-    subst (ArmedAs (Yes rec.r) (Yes rec.b)) armed
+    let all : ArmedAs (Some rec.r) (Some rec.b) (Some T) =
+    subst (ArmedAs (Some rec.r) (Some rec.b)) armed
     (subst (λ (p : Phase). ArmedIn (known_in p)) is ((reached-told r b q).nodes-told j c).armed) in
     let same : rec.b ≡ all.0 = same_known rec.b all.0 all.1 in
     (ap (λ (p : Pair). p.stamp) same ∙ all.2, eqb-true rec.r.status rec.b.status all.3)
@@ -112,7 +108,7 @@ reported-in-life (a ∷ rest) e = go (ends_life a.step) (is_kind (step_kind a) r
 
 abbrev Unchanged : Moment → Step → Out → Type 0
 Unchanged m step out =
-    (number : ℕ) → out.answer ≡ Refused number → ◌≡◌ {A = Moment} (record { site = out.site; records = table_after_answer out.answer step m.records out.node }) m
+    (refusal : Refusal) → out.answer ≡ Err refusal → ◌≡◌ {A = Moment} (record { site = out.site; records = table_after_answer out.answer step m.records out.node }) m
 
 pub refused-changes-nothing : RefusedChangesNothing
 unfolding out_of table_after
@@ -122,11 +118,11 @@ refused-changes-nothing m step =
     (λ refusal number is. refl)
 
 sent_in : Answer → Sent
-sent_in (Done sent) = sent
-sent_in (Refused number) = silence
+sent_in (Ok sent) = sent
+sent_in (Err refusal) = silence
 
 pub starts-silent : StartsSilent
 unfolding out_of effect_of sent_in
 starts-silent m b sent =
-    by_tests (λ out. out.answer ≡ Done sent → sent ≡ silence) m.site (length m.records) (record_of (named (Start b)).actor m.records) (Start b)
+    by_tests (λ out. out.answer ≡ Ok sent → sent ≡ silence) m.site (length m.records) (record_of (named (Start b)).actor m.records) (Start b)
     (λ e is. sym (ap sent_in is)) (λ number is. absurd (false≢true (ap is_done is)))

@@ -1,21 +1,15 @@
 -- Where f+1 senders are held at a fresh stamp above a node's breaker stamp, for the action that it attempts, it sends the command in that same step: read off what
 -- is sent.
-use Rattle.std.specs.Prelude.{ℕ, ◌+◌, ◌≡◌, refl, Bool, true, false, not, ◌&&◌, ◌||◌, cond, ◌⊎◌, List, [], ◌∷◌, ◌++◌, eqb, leb, ltb}
+use Rattle.std.specs.Prelude.{ℕ, ◌+◌, ◌≡◌, refl, Bool, true, false, not, ◌&&◌, ◌||◌, cond, ◌⊎◌, List, [], ◌∷◌, ◌++◌, eqb, leb, ltb, Option, Some, None}
 use Rattle.std.proofs.Common.{sym, ap, ap₂, subst, ◌∙◌, inl, inr, lt-ltb, le-leb, ltb-true, leb-true, eqb-true, eq-eqb}
 use Rattle.std.proofs.lemmas.Bool.{false≢true}
 use Rattle.refusals.specs.laws.Bools.{left, right}
 use Rattle.time.specs.declared.Dts.{Dts}
 use Rattle.time.specs.Fresh.{fresh}
 use Rattle.senders.specs.Sets.{count_below}
-use Rattle.store.specs.declared.Earliest.{Earliest}
-use Rattle.store.specs.declared.Earliest.TheVariants.{Stamp, Nothing}
 use Rattle.store.specs.Earliest.{fresh_stamps, first_of}
 use Rattle.pairs.specs.declared.Pair.{Pair}
-use Rattle.pairs.specs.declared.Known.{Known}
-use Rattle.pairs.specs.declared.Known.TheVariants.{Yes, No}
 use Rattle.pairs.specs.Pair.{pair, listed, listed_known, has}
-use Rattle.node.specs.declared.Resend.{Resend}
-use Rattle.node.specs.declared.Resend.TheVariants.{Armed, Off}
 use Rattle.node.specs.State.{attempts}
 use Rattle.combining.specs.laws.OwnLaws.{has-append}
 use Rattle.steps.specs.declared.Beginning.{Beginning}
@@ -60,14 +54,14 @@ itself p = simp (eq-eqb p.status p.status refl, eq-eqb p.stamp.0 p.stamp.0 refl)
 
 -- ---- what is sent again
 
-resent : (t : Dts) (resend : Resend) (b : Known) (A : ℕ) (T : Dts) → has (listed_known (again_of t resend b)) A T ≡ true → IsResent resend b A T
-resent t (Armed U) (Yes p) A T e = go (fresh U t) e
+resent : (t : Dts) (resend : Option Dts) (b : Option Pair) (A : ℕ) (T : Dts) → has (listed_known (again_of t resend b)) A T ≡ true → IsResent resend b A T
+resent t (Some U) (Some p) A T e = go (fresh U t) e
   where
-    go : (x : Bool) → has (listed_known (cond x (Yes (pair p.status U)) No)) A T ≡ true → (A ≡ p.status) × (T.0 ≡ U.0)
+    go : (x : Bool) → has (listed_known (cond x (Some (pair p.status U)) None)) A T ≡ true → (A ≡ p.status) × (T.0 ≡ U.0)
     go true e = only_one _ A T e
     go false e = absurd (false≢true e)
-resent t (Armed U) No A T e = absurd (false≢true e)
-resent t Off b A T e = absurd (false≢true e)
+resent t (Some U) None A T e = absurd (false≢true e)
+resent t None b A T e = absurd (false≢true e)
 
 module _ (b : Beginning) (a : Accepted) (before : List Accepted) (j : ℕ) (t : Dts) (event : Event) where
   abbrev n : ℕ
@@ -76,10 +70,10 @@ module _ (b : Beginning) (a : Accepted) (before : List Accepted) (j : ℕ) (t : 
   abbrev held : ℕ → Dts → ℕ → Bool
   held = held_then before a j t
 
-  abbrev again : Known
+  abbrev again : Option Pair
   again = again_by (said_by event) t (told_to b j before).resend (told_to b j before).b
 
-  abbrev rule : Known
+  abbrev rule : Option Pair
   rule = combined_of n b.f t held (r_then b before j t event) (b_then b before j t event)
 
   abbrev test : Pair → Pair → ℕ → Bool
@@ -98,21 +92,21 @@ module _ (b : Beginning) (a : Accepted) (before : List Accepted) (j : ℕ) (t : 
   earliest-of : (r p : Pair) (U : Dts) → IsFirst t (test r p) U → IsEarliest b a before j t event r.status p U
   earliest-of r p U first = (enough-of r p U first.is-fresh first.passes, λ W enough. first.earliest W.0 enough.0 (tested r p W enough))
 
-  ruled : (r p : Pair) → r_then b before j t event ≡ Yes r → b_then b before j t event ≡ Yes p → attempts r p ≡ true
+  ruled : (r p : Pair) → r_then b before j t event ≡ Some r → b_then b before j t event ≡ Some p → attempts r p ≡ true
       → rule ≡ command_at r.status (first_of (test r p) (fresh_stamps t))
   ruled r p is-r is-p attempting =
-      ap₂ (combined_of n b.f t held) is-r is-p ∙ ap (λ (x : Bool). cond x (command_at r.status (first_of (test r p) (fresh_stamps t))) No) attempting
+      ap₂ (combined_of n b.f t held) is-r is-p ∙ ap (λ (x : Bool). cond x (command_at r.status (first_of (test r p) (fresh_stamps t))) None) attempting
 
   -- a command of the rule
-  by-rule : (x y : Known) → r_then b before j t event ≡ x → b_then b before j t event ≡ y → (A : ℕ) (T : Dts) → has (listed_known (combined_of n b.f t held x y)) A T ≡ true
+  by-rule : (x y : Option Pair) → r_then b before j t event ≡ x → b_then b before j t event ≡ y → (A : ℕ) (T : Dts) → has (listed_known (combined_of n b.f t held x y)) A T ≡ true
       → (p : Pair) × Attempts b a before j t event A p × IsEarliest b a before j t event A p T
-  by-rule (Yes r) (Yes p) is-r is-p A T = go (attempts r p) (first_of (test r p) (fresh_stamps t)) refl refl
+  by-rule (Some r) (Some p) is-r is-p A T = go (attempts r p) (first_of (test r p) (fresh_stamps t)) refl refl
     where
-      go : (x : Bool) (e : Earliest) → attempts r p ≡ x → first_of (test r p) (fresh_stamps t) ≡ e → has (listed_known (cond x (command_at r.status e) No)) A T ≡ true
+      go : (x : Bool) (e : Option Dts) → attempts r p ≡ x → first_of (test r p) (fresh_stamps t) ≡ e → has (listed_known (cond x (command_at r.status e) None)) A T ≡ true
           → (p : Pair) × Attempts b a before j t event A p × IsEarliest b a before j t event A p T
       go false e ex ee h = absurd (false≢true h)
-      go true Nothing ex ee h = absurd (false≢true h)
-      go true (Stamp U) ex ee h =
+      go true None ex ee h = absurd (false≢true h)
+      go true (Some U) ex ee h =
           let that = only_one _ A T h in
           let stamp : T ≡ U = ap (λ (k : ℕ). record { 0 = k }) that.1 in (
             p,
@@ -120,8 +114,8 @@ module _ (b : Beginning) (a : Accepted) (before : List Accepted) (j : ℕ) (t : 
             subst (λ (B : ℕ). IsEarliest b a before j t event B p T) (sym that.0)
                 (subst (IsEarliest b a before j t event r.status p) (sym stamp) (earliest-of r p U (first-is t (test r p) U ee))),
           )
-  by-rule (Yes r) No is-r is-p A T = λ h. absurd (false≢true h)
-  by-rule No y is-r is-p A T = λ h. absurd (false≢true h)
+  by-rule (Some r) None is-r is-p A T = λ h. absurd (false≢true h)
+  by-rule None y is-r is-p A T = λ h. absurd (false≢true h)
 
   pub sends-here : listed a.sent.commands ≡ listed_known again ++ listed_known rule → SendsAtOnceHere b a before j t event
   sends-here so =
@@ -140,14 +134,14 @@ module _ (b : Beginning) (a : Accepted) (before : List Accepted) (j : ℕ) (t : 
             subst (λ (B : ℕ). has (listed a.sent.commands) B found.0 ≡ true) (sym same)
                 (ap (λ (ps : List Pair). has ps r.status found.0) so
                 ∙ has_last (listed_known again) (listed_known rule) r.status found.0
-                (ap (λ (k : Known). has (listed_known k) r.status found.0) (ruled r p is-r is-p attempting ∙ ap (command_at r.status) found.1) ∙ itself (pair r.status found.0))),
+                (ap (λ (k : Option Pair). has (listed_known k) r.status found.0) (ruled r p is-r is-p attempting ∙ ap (command_at r.status) found.1) ∙ itself (pair r.status found.0))),
           )
 
       from : {A : ℕ} {T : Dts} → (has (listed_known again) A T ≡ true) ⊎ (has (listed_known rule) A T ≡ true)
           → (IsResent (told_to b j before).resend (told_to b j before).b A T × ((said_by event).kind ≡ resend_timeout)) ⊎ ((p : Pair) × Attempts b a before j t event A p × IsEarliest b a before j t event A p T)
       from {A} {T} (inl h) = inl (go (is_kind (said_by event).kind resend_timeout) refl h)
         where
-          go : (x : Bool) → is_kind (said_by event).kind resend_timeout ≡ x → has (listed_known (cond x (again_of t (told_to b j before).resend (told_to b j before).b) No)) A T ≡ true
+          go : (x : Bool) → is_kind (said_by event).kind resend_timeout ≡ x → has (listed_known (cond x (again_of t (told_to b j before).resend (told_to b j before).b) None)) A T ≡ true
               → IsResent (told_to b j before).resend (told_to b j before).b A T × ((said_by event).kind ≡ resend_timeout)
           go true e h = (resent t (told_to b j before).resend (told_to b j before).b A T h, (kind-is (said_by event).kind resend_timeout).0 (ap not e))
           go false e h = absurd (false≢true h)

@@ -1,17 +1,14 @@
 -- What the accepted changes are, step by step: the breaker has the status that they are told by, each was shared before by a correct node, and their
 -- stamps rise, from the Start's g on.
-use Rattle.std.specs.Prelude.{ℕ, ◌≤◌, ◌<◌, ◌≡◌, Bool, true, false, eqb, length}
+use Rattle.std.specs.Prelude.{ℕ, ◌≤◌, ◌<◌, ◌≡◌, Bool, true, false, eqb, length, Option, Some, None, unwrap_or}
 use Rattle.std.proofs.Math.Path.{refl, subst}
 use Rattle.std.proofs.Common.{sym, ap, ◌∙◌, arith, eqb-true}
 use mathlib.Core.List.{List, [], ◌∷◌, ◌++◌}
-use Rattle.std.proofs.Math.Option.{Option, some, get_or}
 use Rattle.refusals.specs.laws.Bools.{left, and-true}
 use Rattle.time.specs.declared.Dts.{Dts}
 use Rattle.time.specs.Larger.{larger}
 use Rattle.time.specs.laws.Larger.{larger-least}
 use Rattle.pairs.specs.declared.Pair.{Pair}
-use Rattle.pairs.specs.declared.Known.{Known}
-use Rattle.pairs.specs.declared.Known.TheVariants.{Yes, No}
 use Rattle.pairs.specs.Pair.{pair}
 use Rattle.node.specs.declared.Node.{Node}
 use Rattle.steps.specs.declared.Beginning.{Beginning}
@@ -58,9 +55,9 @@ pub record Changing (b : Beginning) (steps : List Accepted) (site : Site) : Type
   pub since : b.g.0 ≤ site.breaker.pair.stamp.0
   pub after-g : Each (λ c. b.g.0 < c.stamp.0) (changes_in b.status steps)
 
-abbrev stamp_of : Known → ℕ
-stamp_of (Yes p) = p.stamp.0
-stamp_of No = 0
+abbrev stamp_of : Option Pair → ℕ
+stamp_of (Some p) = p.stamp.0
+stamp_of None = 0
 
 module _ (b : Beginning) (steps : List Accepted) (site : Site) (before : Changing b steps site) where
   -- where neither the breaker's pair nor the list of changes moves
@@ -108,7 +105,7 @@ module _ (b : Beginning) (steps : List Accepted) (site : Site) (before : Changin
         a = command_with (pair A (larger T t))
 
         c : Change
-        c = record { number = number; clock = t; action = A; stamp = T; acked = Yes (pair A (larger T t)); before = steps }
+        c = record { number = number; clock = t; action = A; stamp = T; acked = Some (pair A (larger T t)); before = steps }
 
         below : site.breaker.pair.stamp.0 < T.0 → (d : Change) → NotAbove site.breaker.pair.stamp d → BothStamps (λ U. U.0 < T.0) d
         below higher d old = (let x = old.0 in omega (arith, higher, x), λ p is. let x = old.1 p is in omega (arith, higher, x))
@@ -123,19 +120,19 @@ module _ (b : Beginning) (steps : List Accepted) (site : Site) (before : Changin
         let is : A ≡ site.breaker.pair.status = eqb-true _ _ e in
         unmoved (command_with sent) next same (is ∙ before.status)
         (ap
-        (λ (had : Bool). unless_had had (record { number = number; clock = t; action = A; stamp = T; acked = Yes sent; before = steps }) ++ changes_in b.status steps)
+        (λ (had : Bool). unless_had had (record { number = number; clock = t; action = A; stamp = T; acked = Some sent; before = steps }) ++ changes_in b.status steps)
         (ap (λ (had : ℕ). eqb A had) (sym before.status) ∙ e))
 
 -- ---- one step
 
 module _
     (h : List Entry) (site : Site) (records : List Node)
-    (keeps : (b : Beginning) → last_start h ≡ some b → Keeps b (accepted h) site records)
-    (before : (b : Beginning) → last_start h ≡ some b → Changing b (accepted h) site)
+    (keeps : (b : Beginning) → last_start h ≡ Some b → Keeps b (accepted h) site records)
+    (before : (b : Beginning) → last_start h ≡ Some b → Changing b (accepted h) site)
   where
     abbrev ChangedBy : Step → Out → Type 0
     ChangedBy step out =
-        (b : Beginning) → last_start (record { step = step; answer = out.answer } ∷ h) ≡ some b
+        (b : Beginning) → last_start (record { step = step; answer = out.answer } ∷ h) ≡ Some b
         → Changing b (accepted (record { step = step; answer = out.answer } ∷ h)) out.site
 
     starts : (b : Beginning) → Changing b [] (started_site b)
@@ -162,7 +159,7 @@ module _
 
     begins-anew : (first : Beginning) (node : Node) → ChangedBy (Start first) (effect_of site node (Start first))
     unfolding effect_of
-    begins-anew first node = λ b q. subst (λ (x : Beginning). Changing x [] (started_site first)) (ap (λ (o : Option Beginning). get_or o b) q) (starts first)
+    begins-anew first node = λ b q. subst (λ (x : Beginning). Changing x [] (started_site first)) (ap (λ (o : Option Beginning). unwrap_or o b) q) (starts first)
 
     happens-at : (i : ℕ) (t : Dts) (event : Event) (node : Node) → ChangedBy (AtNode i t event) (effect_of site node (AtNode i t event))
     unfolding effect_of act
@@ -188,6 +185,6 @@ module _
 
 -- ---- every sequence
 
-pub reached-changing : {first : Moment} {h : List Entry} {m : Moment} → Reached first h m → (b : Beginning) → last_start h ≡ some b → Changing b (accepted h) m.site
+pub reached-changing : {first : Moment} {h : List Entry} {m : Moment} → Reached first h m → (b : Beginning) → last_start h ≡ Some b → Changing b (accepted h) m.site
 reached-changing from = λ b q. absurd (no_start q)
 reached-changing (then {h} {m} r step) = changing h m.site m.records (reached-keeps r) (reached-changing r) step

@@ -1,11 +1,10 @@
 -- How the record of a correct node fits what the history says of it, and that every event keeps it so.
-use Rattle.std.specs.Prelude.{ℕ, ◌+◌, ◌≤◌, ◌<◌, ◌≡◌, refl, Bool, true, false, not, ◌&&◌, ◌||◌, eqb}
+use Rattle.std.specs.Prelude.{ℕ, ◌+◌, ◌≤◌, ◌<◌, ◌≡◌, refl, Bool, true, false, not, ◌&&◌, ◌||◌, eqb, Option, None, Some}
 use Rattle.std.proofs.Math.Path.{sym, ap, subst}
 use Rattle.std.proofs.Common.{ap₂, ◌∙◌, arith, leb-true}
 use Rattle.std.proofs.Math.Bool.{cond}
 use Rattle.std.proofs.lemmas.Bool.{false≢true}
 use mathlib.Core.List.{List, [], ◌∷◌, ◌++◌}
-use Rattle.std.proofs.Math.Option.{Option, none, some}
 use Rattle.time.specs.declared.Dts.{Dts}
 use Rattle.time.specs.Fresh.{fresh, window}
 use Rattle.time.specs.laws.Fresh.{latest_clock, fresh-ahead}
@@ -15,7 +14,6 @@ use Rattle.store.specs.Store.{empty}
 use Rattle.store.specs.Held.{held}
 use Rattle.store.proofs.laws.Held.{held-empty}
 use Rattle.pairs.specs.declared.Pair.{Pair}
-use Rattle.pairs.specs.declared.Known.TheVariants.{No}
 use Rattle.pairs.specs.Pair.{listed, has}
 use Rattle.pairs.specs.laws.KnownLaws.{is_known}
 use Rattle.node.specs.declared.Record.{Record}
@@ -50,12 +48,12 @@ done_with number step sent = record { number = number; step = step; sent = sent 
 
 -- an event as the history has it
 abbrev pub sent_by : Acted → Sent
-sent_by end = record { shares = end.shares; commands = end.commands; ack = No }
+sent_by end = record { shares = end.shares; commands = end.commands; ack = None }
 
 -- for node j of a site whose threshold is f + 1
 module _ (f j : ℕ) where
   pub record RunningFits (store : Store) (own : List Accepted) : Type 0 where
-    pub now : clock own ≡ some store.clock
+    pub now : clock own ≡ Some store.clock
     pub not_late : store.clock.0 ≤ latest_clock
     pub holding : (i A : ℕ) (T : Dts) → held store A T i ≡ (has (deliveries i j own) A T && fresh T store.clock)
     pub soon : (i A : ℕ) (T : Dts) → has (deliveries i j own) A T ≡ true → T.0 ≤ store.clock.0 + window
@@ -64,7 +62,7 @@ module _ (f j : ℕ) where
     pub once-known : RunsOnceKnown p
     pub r-known : is_known (known_r p) ≡ one_of (report ∷ []) (life own)
     pub b-known : is_known (known_b p) ≡ one_of (ack ∷ query ∷ []) (life own)
-    pub relay : (A : ℕ) → status_in (known_r p) ≡ some A → (last_report own ≡ some A) × (A ≤ 1)
+    pub relay : (A : ℕ) → status_in (known_r p) ≡ Some A → (last_report own ≡ Some A) × (A ≤ 1)
     pub while-running : phase_running p ≡ true → RunningFits store own
     pub nothing_left : (rec : Record) → p ≡ Running rec → Quiet rec store f
 
@@ -89,38 +87,38 @@ module _ (f j : ℕ) where
       step p = done_with number (AtNode j t event) (sent_by (end p))
 
       -- the status that the relay said last, before this step or in it
-      told : (before : Option ℕ) → ((A : ℕ) → before ≡ some A → (last_report own ≡ some A) × (A ≤ 1)) → (A : ℕ) → relay_after event before ≡ some A
-          → (relay_after event (last_report own) ≡ some A) × (A ≤ 1)
+      told : (before : Option ℕ) → ((A : ℕ) → before ≡ Some A → (last_report own ≡ Some A) × (A ≤ 1)) → (A : ℕ) → relay_after event before ≡ Some A
+          → (relay_after event (last_report own) ≡ Some A) × (A ≤ 1)
       told before so A = go (reports event)
         where
-          in-range : (o : Option ℕ) → of_named o is_status ≡ true → o ≡ some A → A ≤ 1
-          in-range none h e = absurd (false≢true (ap there e))
+          in-range : (o : Option ℕ) → of_named o is_status ≡ true → o ≡ Some A → A ≤ 1
+          in-range None h e = absurd (false≢true (ap there e))
             where
               there : Option ℕ → Bool
-              there none = false
-              there (some x) = true
-          in-range (some B) h e = leb-true A 1 (subst (λ (o : Option ℕ). of_named o is_status ≡ true) e h)
+              there None = false
+              there (Some x) = true
+          in-range (Some B) h e = leb-true A 1 (subst (λ (o : Option ℕ). of_named o is_status ≡ true) e h)
 
-          go : (x : Bool) → cond x (said_by event).status before ≡ some A → (cond x (said_by event).status (last_report own) ≡ some A) × (A ≤ 1)
+          go : (x : Bool) → cond x (said_by event).status before ≡ Some A → (cond x (said_by event).status (last_report own) ≡ Some A) × (A ≤ 1)
           go true e = (e, in-range (said_by event).status says e)
           go false e = so A e
 
       -- the shares that the event makes are of that status
-      pub said-last : (p : Phase) → Fits p s own → (A : ℕ) → relay_after event (status_in (known_r p)) ≡ some A → relay_after event (last_report own) ≡ some A
+      pub said-last : (p : Phase) → Fits p s own → (A : ℕ) → relay_after event (status_in (known_r p)) ≡ Some A → relay_after event (last_report own) ≡ Some A
       said-last p fits A e = (told (status_in (known_r p)) fits.relay A e).0
 
       action : (rec : Record) → Fits (Running rec) s own → IsAction (relay_after event (status_in (known_r (Running rec))))
-      action rec fits = go (relay_after event (some rec.r.status)) refl
+      action rec fits = go (relay_after event (Some rec.r.status)) refl
         where
-          go : (o : Option ℕ) → relay_after event (some rec.r.status) ≡ o → IsAction o
-          go none e = tt
-          go (some A) e = (told (some rec.r.status) fits.relay A e).1
+          go : (o : Option ℕ) → relay_after event (Some rec.r.status) ≡ o → IsAction o
+          go None e = tt
+          go (Some A) e = (told (Some rec.r.status) fits.relay A e).1
 
       -- A running node: its store is what it was, at the later clock, with what the step brought.
       goes_on : (rec : Record) → Fits (Running rec) s own → RunningFits (end (Running rec)).node.store (step (Running rec) ∷ own)
       goes_on rec fits =
           record {
-            now = ap some (sym at-clock);
+            now = ap Some (sym at-clock);
             not_late = rw at-clock m;
             holding = λ i A T.
                 held-now i A T

@@ -1,12 +1,9 @@
 -- The second pair is the latest of what this life's acks and queries have said: what was heard is never later than the breaker's pair, since its stamps rise.
-use Rattle.std.specs.Prelude.{ℕ, zero, suc, ◌≤◌, ◌<◌, ◌≡◌, refl, Bool, true, false, ◌&&◌, ◌||◌, cond, List, [], ◌∷◌, ◌++◌, map, eqb, leb, ltb}
+use Rattle.std.specs.Prelude.{ℕ, zero, suc, ◌≤◌, ◌<◌, ◌≡◌, refl, Bool, true, false, ◌&&◌, ◌||◌, cond, List, [], ◌∷◌, ◌++◌, map, eqb, leb, ltb, Option, None, Some}
 use Rattle.std.proofs.Common.{sym, ap, subst, ◌∙◌, arith, eq-eqb, leb-true, leb-false}
-use Rattle.std.proofs.Math.Option.{Option, none, some}
 use Rattle.time.specs.declared.Dts.{Dts}
 use Rattle.time.specs.laws.Larger.{larger-least}
 use Rattle.pairs.specs.declared.Pair.{Pair}
-use Rattle.pairs.specs.declared.Known.{Known}
-use Rattle.pairs.specs.declared.Known.TheVariants.{Yes, No}
 use Rattle.pairs.specs.Pair.{pair, listed, listed_known, has}
 use Rattle.breaker.specs.Breaker.{most_changes}
 use Rattle.steps.specs.declared.Act.{Act}
@@ -34,7 +31,7 @@ later-too T U l = each-so (NoLater T) (NoLater U) (λ q h. omega (arith, l, h))
 
 -- what a change is: acknowledged with its pair, and after the Start's g
 abbrev IsAcked : Change → Type 0
-IsAcked c = c.acked ≡ Yes (pair_of c)
+IsAcked c = c.acked ≡ Some (pair_of c)
 
 abbrev Told : Dts → Change → Type 0
 Told g c = IsAcked c × (g.0 < c.stamp.0)
@@ -44,7 +41,7 @@ each_both P Q [] h k = tt
 each_both P Q (a ∷ rest) h k = ((h.0, k.0), each_both P Q rest h.1 k.1)
 
 module _ (p : Pair) where
-  -- the newest, or the Start's pair where there is none, is the latest
+  -- the newest, or the Start's pair where there is None, is the latest
   abbrev newest : List Change → Dts
   newest cs = (first_or p (map pair_of cs)).stamp
 
@@ -76,11 +73,11 @@ at_place T (q ∷ more) (suc back) h = at_place T more back h.1
 at-number : (T : Dts) (qs : List Pair) (back : ℕ) → Each (NoLater T) qs → Each (NoLater T) (listed_known (numbered_of qs back))
 at-number T qs back h = go (ltb back most_changes)
   where
-    go : (x : Bool) → Each (NoLater T) (listed_known (cond x (numbered qs back) No))
+    go : (x : Bool) → Each (NoLater T) (listed_known (cond x (numbered qs back) None))
     go true = at_place T qs back h
     go false = tt
 
--- a pair is among those that begin with it, and what is among some is among more
+-- a pair is among those that begin with it, and what is among Some is among more
 itself : (p : Pair) (qs : List Pair) → has (p ∷ qs) p.status p.stamp ≡ true
 itself p qs = simp (eq-eqb p.status p.status refl, eq-eqb p.stamp.0 p.stamp.0 refl)
 
@@ -117,8 +114,8 @@ module _ (b : Beginning) where
         go true e = old
         go false e = (
           so
-              ∙ ap (λ (step : Step). Yes (first_or first (map pair_of (with-step step)))) is
-              ∙ ap (λ (x : Bool). Yes (first_or first (map pair_of (unless_had x (change_as t act) ++ changes before)))) e,
+              ∙ ap (λ (step : Step). Some (first_or first (map pair_of (with-step step)))) is
+              ∙ ap (λ (x : Bool). Some (first_or first (map pair_of (unless_had x (change_as t act) ++ changes before)))) e,
           old,
         )
 
@@ -145,41 +142,41 @@ module _ (b : Beginning) where
 
   module _ (j : ℕ) where
     -- what it has heard is no later than a stamp, and this is the latest of it
-    abbrev Hears : Dts → List Pair → Known → Type 0
+    abbrev Hears : Dts → List Pair → Option Pair → Type 0
     Hears T heard second = Each (NoLater T) heard × IsLatest heard second
 
-    module _ (N : Dts) (change : ℕ → Known) (now : Pair) (heard : List Pair) (second : Known) (at_most : Each (NoLater now.stamp) heard)
+    module _ (N : Dts) (change : ℕ → Option Pair) (now : Pair) (heard : List Pair) (second : Option Pair) (at_most : Each (NoLater now.stamp) heard)
         (latest : IsLatest heard second) (bound : now.stamp.0 ≤ N.0) (among : (back : ℕ) → Each (NoLater now.stamp) (listed_known (change back))) where
       same : Hears N heard second
       same = (later-too now.stamp N bound heard at_most, latest)
 
       -- the change that an ack brings
-      one_more : (c : Pair) → c.stamp.0 ≤ now.stamp.0 → (k : Known) → IsLatest heard k → Hears N (c ∷ heard) (later_of k (Yes c))
-      one_more c l No is = ((omega (arith, l, bound), same.0), (itself c heard, (omega arith, subst (Each (NoLater c.stamp)) (sym is) tt)))
-      one_more c l (Yes p) is = ((omega (arith, l, bound), same.0), go (leb p.stamp.0 c.stamp.0) refl)
+      one_more : (c : Pair) → c.stamp.0 ≤ now.stamp.0 → (k : Option Pair) → IsLatest heard k → Hears N (c ∷ heard) (later_of k (Some c))
+      one_more c l None is = ((omega (arith, l, bound), same.0), (itself c heard, (omega arith, subst (Each (NoLater c.stamp)) (sym is) tt)))
+      one_more c l (Some p) is = ((omega (arith, l, bound), same.0), go (leb p.stamp.0 c.stamp.0) refl)
         where
-          go : (x : Bool) → leb p.stamp.0 c.stamp.0 ≡ x → IsLatest (c ∷ heard) (Yes (cond x c p))
+          go : (x : Bool) → leb p.stamp.0 c.stamp.0 ≡ x → IsLatest (c ∷ heard) (Some (cond x c p))
           go true e = let up = leb-true p.stamp.0 c.stamp.0 e in (itself c heard, (omega arith, later-too p.stamp c.stamp up heard is.1))
           go false e = let up = leb-false p.stamp.0 c.stamp.0 e in (or-so (eqb p.status c.status && eqb p.stamp.0 c.stamp.0) is.0, (omega (arith, up), is.1))
 
-      by-ack : (k : Known) → Each (NoLater now.stamp) (listed_known k) → Hears N (listed_known k ++ heard) (later_of second k)
-      by-ack (Yes c) l = one_more c l.0 second latest
-      by-ack No l = go second latest
+      by-ack : (k : Option Pair) → Each (NoLater now.stamp) (listed_known k) → Hears N (listed_known k ++ heard) (later_of second k)
+      by-ack (Some c) l = one_more c l.0 second latest
+      by-ack None l = go second latest
         where
-          go : (k : Known) → IsLatest heard k → Hears N heard (later_of k No)
-          go (Yes p) is = (same.0, is)
-          go No is = (same.0, is)
+          go : (k : Option Pair) → IsLatest heard k → Hears N heard (later_of k None)
+          go (Some p) is = (same.0, is)
+          go None is = (same.0, is)
 
-      by-event : (asks : Bool) (back : Option ℕ) → Hears N (cond asks (now ∷ []) (said_by_ack back change) ++ heard) (cond asks (Yes now) (acked_as back change second))
+      by-event : (asks : Bool) (back : Option ℕ) → Hears N (cond asks (now ∷ []) (said_by_ack back change) ++ heard) (cond asks (Some now) (acked_as back change second))
       by-event true back = ((bound, same.0), (itself now heard, (omega arith, at_most)))
-      by-event false (some back) = by-ack (change back) (among back)
-      by-event false none = same
+      by-event false (Some back) = by-ack (change back) (among back)
+      by-event false None = same
 
-      by-step : (step : Step) (sent : Known) (k : Knows) → k.second ≡ second → Hears N (heard_with step change now heard) (knows_by step change now sent k).second
+      by-step : (step : Step) (sent : Option Pair) (k : Knows) → k.second ≡ second → Hears N (heard_with step change now heard) (knows_by step change now sent k).second
       by-step (Start other) sent k is = subst (Hears N heard) (sym is) same
       by-step Tick sent k is = subst (Hears N heard) (sym is) same
       by-step (AtNode i t event) sent k is =
-          subst (λ (s : Known). Hears N (cond (is_kind (said_by event).kind query) (now ∷ []) (said_by_ack (said_by event).back change) ++ heard) (heard_by (said_by event) change now s)) (sym is)
+          subst (λ (s : Option Pair). Hears N (cond (is_kind (said_by event).kind query) (now ∷ []) (said_by_ack (said_by event).back change) ++ heard) (heard_by (said_by event) change now s)) (sym is)
           (by-event (is_kind (said_by event).kind query) (said_by event).back)
       by-step (Life i turn) sent k is = (tt, refl)
       by-step (AtBreaker t act) sent k is = subst (Hears N heard) (sym is) same
@@ -191,7 +188,7 @@ module _ (b : Beginning) where
         let old = since a before a.step rising told in
         go old.0 old.1 old.2 (hears before old.0 old.1) (concerns j a)
       where
-        sent : Known
+        sent : Option Pair
         sent = last_of (listed a.sent.commands)
 
         go : Rising (changes before) → Each (Told b.g) (changes before) → (newest first (changes before)).0 ≤ (newest first (changes (a ∷ before))).0

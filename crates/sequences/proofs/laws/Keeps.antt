@@ -1,7 +1,6 @@
 -- What a site and its table keep of the history, step by step.
-use Rattle.std.specs.Prelude.{ℕ, ◌≤◌, ◌<◌, ◌≡◌, refl, Bool, true, false, cond, ◌⊎◌, List, ◌∷◌, eqb, length, get_or, set}
+use Rattle.std.specs.Prelude.{ℕ, ◌≤◌, ◌<◌, ◌≡◌, refl, Bool, true, false, cond, ◌⊎◌, List, ◌∷◌, eqb, length, get_or, set, Some}
 use Rattle.std.proofs.Common.{sym, ap, ap₂, subst, ◌∙◌, inl, inr, get_or-set_same, get_or-set_other, eqb-true, eq-eqb}
-use Rattle.std.proofs.Math.Option.{some}
 use Rattle.std.proofs.lemmas.Bool.{eqb-false}
 use Rattle.time.specs.declared.Dts.{Dts}
 use Rattle.senders.specs.Masks.{is_in, size, room}
@@ -99,7 +98,7 @@ module _ (b : Beginning) (steps : List Accepted) (site : Site) (records : List N
   -- an event at node i, with the shares that it makes
   pub acts : (i number : ℕ) (t : Dts) (event : Event) → Placed site (length records) i
       → ((A : ℕ) (T : Dts) → has (listed (acted site.breaker (get_or records i went_down) i site.f t event).shares) A T ≡ true
-      → AtOwnClock t T × (last_report (done_with number (AtNode i t event) (sent_by (acted site.breaker (get_or records i went_down) i site.f t event)) ∷ at_node i steps) ≡ some A))
+      → AtOwnClock t T × (last_report (done_with number (AtNode i t event) (sent_by (acted site.breaker (get_or records i went_down) i site.f t event)) ∷ at_node i steps) ≡ Some A))
       → FitsNode site.f i (acted site.breaker (get_or records i went_down) i site.f t event).node
       (done_with number (AtNode i t event) (sent_by (acted site.breaker (get_or records i went_down) i site.f t event)) ∷ at_node i steps)
       → Keeps b (done_with number (AtNode i t event) (sent_by (acted site.breaker (get_or records i went_down) i site.f t event)) ∷ steps)

@@ -1,12 +1,11 @@
 -- What is told of a node is what its record says, through every event and turn.
-use Rattle.std.specs.Prelude.{ℕ, ◌≤◌, ◌≡◌, refl, true, false, not, List, [], ◌∷◌}
+use Rattle.std.specs.Prelude.{ℕ, ◌≤◌, ◌≡◌, refl, true, false, not, List, [], ◌∷◌, Option}
 use Rattle.std.proofs.Common.{sym, ap, ap₂, subst, ◌∙◌}
 use Rattle.std.proofs.Math.Path.{fun_ext}
 use Rattle.std.proofs.lemmas.Bool.{false≢true}
 use Rattle.time.specs.declared.Dts.{Dts}
 use Rattle.store.specs.Store.{empty}
 use Rattle.pairs.specs.declared.Pair.{Pair}
-use Rattle.pairs.specs.declared.Known.{Known}
 use Rattle.pairs.specs.Pair.{listed}
 use Rattle.node.specs.declared.Phase.{Phase}
 use Rattle.node.specs.declared.Phase.TheVariants.{Starting, Running, Down as NotUp}
@@ -75,14 +74,14 @@ module _
         ((told-by breaker t event node.phase).unsent (subst (λ (p : Phase). phase_takes p (said_by event).kind ≡ true) is takes))
     stays-idle (Running rec) is e = absurd (false≢true (sym e ∙ (goes_on breaker node i f t event).runs_on (ap phase_running is)))
 
-    pub event-tells : (change : ℕ → Known) (now : Pair) → ((back : ℕ) → change_at breaker back ≡ change back) → breaker.pair ≡ now
+    pub event-tells : (change : ℕ → Option Pair) (now : Pair) → ((back : ℕ) → change_at breaker back ≡ change back) → breaker.pair ≡ now
         → NodeTells (knows_after (said_by event) t change now (last_of (listed end.commands)) k) (step ∷ own) end.node
     event-tells change now same-change same-now =
         record {
           knows =
               event-known breaker node i f t event up (suits node.phase (said_by event).kind takes) known before.armed
               ∙ ap (knows_after (said_by event) t (change_at breaker) breaker.pair (last_of (listed end.commands))) before.knows
-              ∙ ap₂ (λ (c : ℕ → Known) (p : Pair). knows_after (said_by event) t c p (last_of (listed end.commands)) k) (fun_ext same-change) same-now;
+              ∙ ap₂ (λ (c : ℕ → Option Pair) (p : Pair). knows_after (said_by event) t c p (last_of (listed end.commands)) k) (fun_ext same-change) same-now;
           is-down = (goes_on breaker node i f t event).not-down ∙ before.is-down;
           last-clock = at;
           armed = event-armed breaker node i f t event up (suits node.phase (said_by event).kind takes) known before.armed;

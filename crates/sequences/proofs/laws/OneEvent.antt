@@ -1,6 +1,6 @@
 -- An accepted event at a node, at any moment whatever, reached or not: what holds of what the event makes of the node holds of the record that the lent table
 -- has afterwards, and what holds of what it sends holds of the answer.
-use Rattle.std.specs.Prelude.{ℕ, ◌≤◌, ◌≡◌, true, not, List, length, get_or}
+use Rattle.std.specs.Prelude.{ℕ, ◌≤◌, ◌≡◌, true, not, List, length, get_or, Ok, Err}
 use Rattle.std.proofs.Common.{sym, ap, get_or-set_same}
 use Rattle.std.proofs.Math.Path.{subst}
 use Rattle.std.proofs.lemmas.Bool.{false≢true}
@@ -16,10 +16,8 @@ use Rattle.steps.specs.declared.Step.TheVariants.{AtNode}
 use Rattle.acting.specs.Acting.{acted}
 use Rattle.site.specs.declared.Site.{Site}
 use Rattle.site.specs.declared.Sent.{Sent}
-use Rattle.site.specs.declared.Answer.{Answer}
-use Rattle.site.specs.declared.Answer.TheVariants.{Done, Refused}
 use Rattle.site.specs.declared.Out.{Out}
-use Rattle.site.specs.Answers.{is_done, silence}
+use Rattle.site.specs.Answers.{is_done, silence, Answer}
 use Rattle.refusing.specs.laws.Accepted.{happens}
 use Rattle.effects.specs.Effects.{act, effect_of}
 use Rattle.lent.specs.Lent.{out_of, table_after, table_after_answer}
@@ -32,8 +30,8 @@ abbrev pub phase_after : Moment → Step → ℕ → Phase
 phase_after m step j = (node_at (after_step m step) j).phase
 
 sent_in : Answer → Sent
-sent_in (Done sent) = sent
-sent_in (Refused number) = silence
+sent_in (Ok sent) = sent
+sent_in (Err refusal) = silence
 
 module _ (site : Site) (records : List Node) (j : ℕ) (t : Dts) (event : Event) where
   abbrev node : Node
@@ -59,7 +57,7 @@ module _ (site : Site) (records : List Node) (j : ℕ) (t : Dts) (event : Event)
       (λ refused done. absurd (false≢true done))
 
   abbrev Sends : (Sent → Type 0) → Sent → Out → Type 0
-  Sends P sent out = out.answer ≡ Done sent → P sent
+  Sends P sent out = out.answer ≡ Ok sent → P sent
 
   sends : (P : Sent → Type 0) → Once (P (sent_by end)) → (sent : Sent) → Sends P sent (out_of site records (AtNode j t event))
   unfolding out_of effect_of act sent_in
@@ -81,5 +79,5 @@ module _ (m : Moment) (j : ℕ) (t : Dts) (event : Event) where
   event-leaves P so is-done = leaves m.site m.records j t event P so is-done
 
   pub event-sends : (P : Sent → Type 0) → (not (phase_down before.phase) ≡ true → before.store.clock.0 ≤ t.0 → P (sent_by after)) → (sent : Sent)
-      → answer_to m (AtNode j t event) ≡ Done sent → P sent
+      → answer_to m (AtNode j t event) ≡ Ok sent → P sent
   event-sends P so sent e = sends m.site m.records j t event P so sent e

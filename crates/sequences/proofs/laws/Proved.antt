@@ -1,7 +1,6 @@
 -- The third demand holds.
-use Rattle.std.specs.Prelude.{ℕ, ◌+◌, ◌-◌, ◌^◌, ◌≤◌, ◌<◌, ◌≡◌, refl, Bool, true, false, ◌&&◌, List, leb, ltb}
+use Rattle.std.specs.Prelude.{ℕ, ◌+◌, ◌-◌, ◌^◌, ◌≤◌, ◌<◌, ◌≡◌, refl, Bool, true, false, ◌&&◌, List, leb, ltb, Option}
 use Rattle.std.proofs.Common.{sym, ap, ap₂, subst, ◌∙◌, arith, ltb-true, ltb-false}
-use Rattle.std.proofs.Math.Option.{Option}
 use Rattle.std.proofs.lemmas.Bool.{lt-leb}
 use Rattle.refusals.specs.laws.Bools.{and-false}
 use Rattle.time.specs.declared.Dts.{Dts}
@@ -80,9 +79,9 @@ few-held f j rec s own n l fits left attempts-now T above = go (ltb T.0 (2 ^ 32)
         ap (λ (x : Bool). leb (s.clock.0 - window) T.0 && x) (lt-leb T.0 (s.clock.0 + window) (omega (arith, far, late)))
         ∙ and-false (leb (s.clock.0 - window) T.0)
         in
-        let none = count_none n (held s rec.r.status T) (λ i.
+        let None = count_none n (held s rec.r.status T) (λ i.
         fits.holding i rec.r.status T ∙ ap (λ (x : Bool). has (deliveries i j own) rec.r.status T && x) old ∙ and-false (has (deliveries i j own) rec.r.status T)) in
-        omega (arith, none)
+        omega (arith, None)
 
 pub none_left : Always NoneLeft
 none_left first h m r b q j c rec is attempts-now T above =

@@ -1,12 +1,10 @@
 -- Every sequence of steps keeps what Keeps.antt says.
-use Rattle.std.specs.Prelude.{ℕ, ◌+◌, ◌≤◌, ◌≡◌, Bool, true, false, cond, leb, length, drop}
+use Rattle.std.specs.Prelude.{ℕ, ◌+◌, ◌≤◌, ◌≡◌, Bool, true, false, cond, leb, length, drop, Option, None, Some, unwrap_or}
 use Rattle.std.proofs.Math.Path.{refl, subst}
 use Rattle.std.proofs.Common.{sym, ap, ◌∙◌, arith, lt-ltb, leb-true}
 use Rattle.std.proofs.lemmas.Bool.{false≢true}
 use Rattle.std.proofs.Math.Logic.{inr}
 use mathlib.Core.List.{List, [], ◌∷◌}
-use Rattle.std.proofs.Math.Option
-use Rattle.std.proofs.Math.Option.{Option, none, some}
 use Rattle.std.proofs.Math.ListN.{get_or}
 use Rattle.refusals.specs.laws.Bools.{right}
 use Rattle.time.specs.declared.Dts.{Dts}
@@ -48,10 +46,10 @@ use Rattle.sequences.proofs.laws.Keeps.{FitsNode, Keeps, correct, elsewhere, at-
 -- ---- a node that went down, one that came up, and one at the start
 
 there : {A : Type 0} → Option A → Bool
-there none = false
-there (some a) = true
+there None = false
+there (Some a) = true
 
-none_said : {A : ℕ} → none ≡ some A → ⊥
+none_said : {A : ℕ} → None ≡ Some A → ⊥
 unfolding there
 none_said e = false≢true (ap there e)
 
@@ -106,16 +104,16 @@ starts records b most-f most-k few =
 pub remembered : (breaker : Breaker) (o : Option ℕ) → of_named o (λ back. leb back 7) ≡ true → of_named o (λ back. leb (back + 1) breaker.changes.count) ≡ true
     → of_named o (λ back. is_known (change_at breaker back)) ≡ true
 unfolding change_at
-remembered breaker none a b = refl
-remembered breaker (some back) a b =
+remembered breaker None a b = refl
+remembered breaker (Some back) a b =
     let most = leb-true back 7 a in
     let few = leb-true (back + 1) breaker.changes.count b in
     simp (lt-ltb back breaker.changes.count (omega (arith, few)), lt-ltb back most_changes (omega (arith, most)))
 
-module _ (h : List Entry) (site : Site) (records : List Node) (before : (b : Beginning) → last_start h ≡ some b → Keeps b (accepted h) site records) where
+module _ (h : List Entry) (site : Site) (records : List Node) (before : (b : Beginning) → last_start h ≡ Some b → Keeps b (accepted h) site records) where
   abbrev KeptBy : Step → Out → Type 0
   KeptBy step out =
-      (b : Beginning) → last_start (record { step = step; answer = out.answer } ∷ h) ≡ some b
+      (b : Beginning) → last_start (record { step = step; answer = out.answer } ∷ h) ≡ Some b
       → Keeps b (accepted (record { step = step; answer = out.answer } ∷ h)) out.site (table_after_answer out.answer step records out.node)
 
   abbrev node_of : Step → Node
@@ -129,7 +127,7 @@ module _ (h : List Entry) (site : Site) (records : List Node) (before : (b : Beg
   begins-anew first e = λ b q.
       let begun = begins site (length records) (node_of (Start first)) first e in
       subst (λ (x : Beginning). Keeps x [] (started_site first) (first_records (nodes first.f first.k) first.compromised records))
-      (ap (λ (o : Option Beginning). Option.get_or o b) q) (starts records first begun.most-f begun.most-k begun.few)
+      (ap (λ (o : Option Beginning). unwrap_or o b) q) (starts records first begun.most-f begun.most-k begun.few)
 
   ticks : Does Tick
   unfolding effect_of ticked
@@ -180,11 +178,11 @@ module _ (h : List Entry) (site : Site) (records : List Node) (before : (b : Beg
 -- ---- every sequence
 
 -- where nothing has happened there was no Start
-pub no_start : {b : Beginning} → none ≡ some b → ⊥
+pub no_start : {b : Beginning} → None ≡ Some b → ⊥
 unfolding there
 no_start q = false≢true (ap there q)
 
-pub reached-keeps : {first : Moment} {h : List Entry} {m : Moment} → Reached first h m → (b : Beginning) → last_start h ≡ some b → Keeps b (accepted h) m.site m.records
+pub reached-keeps : {first : Moment} {h : List Entry} {m : Moment} → Reached first h m → (b : Beginning) → last_start h ≡ Some b → Keeps b (accepted h) m.site m.records
 unfolding table_after
 reached-keeps from = λ b q. absurd (no_start q)
 reached-keeps (then {h} {m} r step) = kept h m.site m.records (reached-keeps r) step

@@ -1,11 +1,9 @@
 -- r moves by reports alone: 01 sets it in Report and nowhere else, and §1 of 02 moves no more than the stamp that a report gives it.
 -- Of every accepted step at any moment whatever, reached or not, and of what the lent table has afterwards.
-use Rattle.std.specs.Prelude.{ℕ, ◌<◌, ◌≡◌, refl, Bool, true, false, ◌||◌, List, [], ◌∷◌, get_or, set}
+use Rattle.std.specs.Prelude.{ℕ, ◌<◌, ◌≡◌, refl, Bool, true, false, ◌||◌, List, [], ◌∷◌, get_or, set, Option, None, Some, unwrap_or}
 use Rattle.std.proofs.Common.{ap, ◌∙◌, true≢false, get_or-set_same}
 use Rattle.std.proofs.Math.Path.{subst}
 use Rattle.std.proofs.lemmas.Bool.{false≢true}
-use Rattle.std.proofs.Math.Option
-use Rattle.std.proofs.Math.Option.{Option, none, some}
 use Rattle.std.proofs.Math.ListN.{length}
 use Rattle.time.specs.declared.Dts.{Dts}
 use Rattle.node.specs.declared.Node.{Node}
@@ -32,7 +30,7 @@ use Rattle.sequences.proofs.laws.OneEvent.{phase_after}
 -- A step at node j that is no Report, and neither takes the node down nor brings it up, leaves r as it was.
 abbrev pub RelayByReports : Type 0
 RelayByReports =
-    (m : Moment) (j : ℕ) (step : Step) → Accepts m step → (named step).actor ≡ some j → among (named step).said.kind (report ∷ down ∷ up ∷ []) ≡ false
+    (m : Moment) (j : ℕ) (step : Step) → Accepts m step → (named step).actor ≡ Some j → among (named step).said.kind (report ∷ down ∷ up ∷ []) ≡ false
     → known_r (phase_after m step j) ≡ known_r (node_at m j).phase
 
 module _ (site : Site) (records : List Node) (j : ℕ) where
@@ -41,15 +39,15 @@ module _ (site : Site) (records : List Node) (j : ℕ) where
 
   abbrev LeftBy : Step → Out → Type 0
   LeftBy step out =
-      is_done out.answer ≡ true → (named step).actor ≡ some j → among (named step).said.kind (report ∷ down ∷ up ∷ []) ≡ false
+      is_done out.answer ≡ true → (named step).actor ≡ Some j → among (named step).said.kind (report ∷ down ∷ up ∷ []) ≡ false
       → known_r (get_or (table_after_answer out.answer step records out.node) j went_down).phase ≡ known_r (node j).phase
 
-  nobody : {A : Type 0} → none ≡ some j → A
+  nobody : {A : Type 0} → None ≡ Some j → A
   nobody e = absurd (false≢true (ap there e))
     where
       there : Option ℕ → Bool
-      there none = false
-      there (some i) = true
+      there None = false
+      there (Some i) = true
 
   no-report : (event : Event) → among (said_by event).kind (report ∷ down ∷ up ∷ []) ≡ false → reports event ≡ false
   no-report event e = first (reports event) _ e
@@ -63,7 +61,7 @@ module _ (site : Site) (records : List Node) (j : ℕ) where
   happens-at i t event e = λ d is other.
       let end = acted site.breaker (node i) i site.f t event in
       let lent : i < length records = named-within site (length records) (node i) (AtNode i t event) e in
-      subst (λ (k : ℕ). known_r (get_or (set records i end.node) k went_down).phase ≡ known_r (node k).phase) (ap (λ (o : Option ℕ). Option.get_or o j) is)
+      subst (λ (k : ℕ). known_r (get_or (set records i end.node) k went_down).phase ≡ known_r (node k).phase) (ap (λ (o : Option ℕ). unwrap_or o j) is)
       (ap (λ (x : Node). known_r x.phase) (get_or-set_same records i end.node went_down lent)
       ∙ relay-kept site.breaker (node i) i site.f t event (no-report event other))
 

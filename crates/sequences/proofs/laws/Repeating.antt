@@ -1,15 +1,12 @@
 -- A repeated command, one for the status that the breaker has: it "is now done at any T. It sends the ack of the breaker's present pair and changes
 -- nothing but the breaker's clock" (§4 of 02).
-use Rattle.std.specs.Prelude.{ℕ, ◌≡◌, refl, Bool, true, ◌∷◌, ◌++◌, eqb, length}
+use Rattle.std.specs.Prelude.{ℕ, ◌≡◌, refl, Bool, true, ◌∷◌, ◌++◌, eqb, length, Some, Ok}
 use Rattle.std.proofs.Common.{sym, ap, subst, ◌∙◌, eq-eqb}
 use Rattle.std.proofs.lemmas.Bool.{false≢true}
 use Rattle.time.specs.declared.Dts.{Dts}
-use Rattle.pairs.specs.declared.Known.TheVariants.{Yes}
 use Rattle.pairs.specs.declared.Pairs.TheVariants.{Zero}
 use Rattle.site.specs.declared.Out.{Out}
-use Rattle.site.specs.declared.Answer.{Answer}
-use Rattle.site.specs.declared.Answer.TheVariants.{Done}
-use Rattle.site.specs.Answers.{is_done}
+use Rattle.site.specs.Answers.{is_done, Answer}
 use Rattle.effects.specs.Effects.{only_ack, effect_of}
 use Rattle.effects.specs.laws.CommandLaws.{repeat-done}
 use Rattle.lent.specs.Lent.{record_of, out_of, table_after, table_after_answer}
@@ -43,7 +40,7 @@ clock_moved m t =
 abbrev pub RepeatAnswered : Type 0
 RepeatAnswered =
     (m : Moment) (t : Dts) (A : ℕ) (T : Dts) → A ≡ m.site.breaker.pair.status → Accepts m (commands t A T)
-    → (answer_to m (commands t A T) ≡ Done (record { shares = Zero; commands = Zero; ack = Yes m.site.breaker.pair }))
+    → (answer_to m (commands t A T) ≡ Ok (record { shares = Zero; commands = Zero; ack = Some m.site.breaker.pair }))
     × (after_step m (commands t A T) ≡ clock_moved m t)
 
 -- "This is not an accepted change in demand 3": in every sequence the changes after it are those before it.
@@ -58,7 +55,7 @@ RepeatNoChange =
 abbrev AnsweredBy : Moment → Dts → ℕ → Dts → Out → Type 0
 AnsweredBy m t A T out =
     is_done out.answer ≡ true
-    → (out.answer ≡ Done (only_ack m.site.breaker.pair))
+    → (out.answer ≡ Ok (only_ack m.site.breaker.pair))
     × (record { site = out.site; records = table_after_answer out.answer (commands t A T) m.records out.node } ≡ clock_moved m t)
 
 pub repeat-answered : RepeatAnswered
@@ -75,4 +72,4 @@ repeat-no-change first h m r b q t A T same done =
     (ap (λ (had : ℕ). eqb A had) (sym (reached-changing r b q).status) ∙ eq-eqb _ _ same)
   where
     change : Change
-    change = record { number = next_number h; clock = t; action = A; stamp = T; acked = Yes m.site.breaker.pair; before = accepted h }
+    change = record { number = next_number h; clock = t; action = A; stamp = T; acked = Some m.site.breaker.pair; before = accepted h }

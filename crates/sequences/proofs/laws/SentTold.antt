@@ -1,10 +1,9 @@
 -- In every sequence each accepted step has sent what the history says.
-use Rattle.std.specs.Prelude.{ℕ, ◌≤◌, ◌<◌, ◌≡◌, Bool, not, ◌&&◌, cond, List, ◌∷◌, ◌++◌, length}
+use Rattle.std.specs.Prelude.{ℕ, ◌≤◌, ◌<◌, ◌≡◌, Bool, not, ◌&&◌, cond, List, ◌∷◌, ◌++◌, length, Some, Option}
 use Rattle.std.proofs.Math.Path.{refl, ap, ap₂, fun_ext}
 use Rattle.std.proofs.Common.{sym, subst, ◌∙◌}
 use Rattle.std.proofs.Math.Bool.{true}
 use Rattle.std.proofs.lemmas.Bool.{false≢true}
-use Rattle.std.proofs.Math.Option.{some}
 use Rattle.std.proofs.Math.Dec.{eqb}
 use borrow.Author.Tests.{eq-eqb}
 use Rattle.std.proofs.Math.ListN.{get_or}
@@ -18,8 +17,6 @@ use Rattle.store.specs.Held.{held}
 use Rattle.store.proofs.laws.Held.{held-empty}
 use Rattle.store.proofs.laws.WithinLaws.{within_held}
 use Rattle.pairs.specs.declared.Pair.{Pair}
-use Rattle.pairs.specs.declared.Known.{Known}
-use Rattle.pairs.specs.declared.Known.TheVariants.{Yes}
 use Rattle.pairs.specs.Pair.{listed, listed_known, has}
 use Rattle.node.specs.declared.Phase.{Phase}
 use Rattle.node.specs.declared.Phase.TheVariants.{Starting, Running, Down as NotUp}
@@ -137,7 +134,7 @@ module _
           ((told-by site.breaker t event p).knows up (suits p (said_by event).kind takes) known)
           ∙ ap₂ (λ (x : Knows) (f : ℕ).
           combined_of (nodes b.f b.k) f t (held_then steps a i t) (relay_by (said_by event) t x.b x.r) (breaker_by (said_by event) t (change_at site.breaker) site.breaker.pair x)) knows keeps.same-f
-          ∙ ap₂ (λ (change : ℕ → Known) (now : Pair).
+          ∙ ap₂ (λ (change : ℕ → Option Pair) (now : Pair).
           combined_of (nodes b.f b.k) b.f t (held_then steps a i t) (relay_by (said_by event) t k.b k.r) (breaker_by (said_by event) t change now k))
           (fun_ext (λ back. ap (λ (x : Breaker). change_at x back) told.breaker ∙ change-numbered _ _ (change_pairs b steps) back)) (ap (λ (x : Breaker). x.pair) told.breaker)
 
@@ -145,7 +142,7 @@ module _
       unfolding acted finished
       commands-so =
           event-commands site.breaker node i site.f t event up (suits p (said_by event).kind takes) known (told.nodes-told i c).armed
-          ∙ ap₂ (λ (x y : Known). listed_known x ++ listed_known y) (ap (λ (x : Knows). again_by (said_by event) t x.resend x.b) knows) rule-so
+          ∙ ap₂ (λ (x y : Option Pair). listed_known x ++ listed_known y) (ap (λ (x : Knows). again_by (said_by event) t x.resend x.b) knows) rule-so
 
       pub event-sent : SentSo b a steps
       event-sent = record { shares = shares-so; commands = commands-so; ack = refl }
@@ -160,13 +157,13 @@ pub record After (b : Beginning) (steps : List Accepted) (site : Site) (records 
 
 module _
     (h : List Entry) (site : Site) (records : List Node)
-    (keeps : (b : Beginning) → last_start h ≡ some b → Keeps b (accepted h) site records)
-    (told : (b : Beginning) → last_start h ≡ some b → Tells b (accepted h) site records)
-    (before : (b : Beginning) → last_start h ≡ some b → EachStep (SentSo b) (accepted h))
+    (keeps : (b : Beginning) → last_start h ≡ Some b → Keeps b (accepted h) site records)
+    (told : (b : Beginning) → last_start h ≡ Some b → Tells b (accepted h) site records)
+    (before : (b : Beginning) → last_start h ≡ Some b → EachStep (SentSo b) (accepted h))
   where
     abbrev SentBy : Step → Out → Type 0
     SentBy step out =
-        (b : Beginning) → last_start (record { step = step; answer = out.answer } ∷ h) ≡ some b
+        (b : Beginning) → last_start (record { step = step; answer = out.answer } ∷ h) ≡ Some b
         → After b (accepted (record { step = step; answer = out.answer } ∷ h)) out.site (table_after_answer out.answer step records out.node)
         → EachStep (SentSo b) (accepted (record { step = step; answer = out.answer } ∷ h))
 
@@ -202,7 +199,7 @@ module _
 
     is-told : (t : Dts) (command : Act) → Does (AtBreaker t command)
     unfolding effect_of commanded
-    is-told t command e = λ b q after. (record { shares = refl; commands = refl; ack = ap (λ (x : Breaker). Yes x.pair) after.still-told.breaker }, before b q)
+    is-told t command e = λ b q after. (record { shares = refl; commands = refl; ack = ap (λ (x : Breaker). Some x.pair) after.still-told.breaker }, before b q)
 
     done : (step : Step) → Does step
     unfolding effect_of
@@ -218,7 +215,7 @@ module _
 
 -- ---- every sequence
 
-pub reached-sent : {first : Moment} {h : List Entry} {m : Moment} → Reached first h m → (b : Beginning) → last_start h ≡ some b → EachStep (SentSo b) (accepted h)
+pub reached-sent : {first : Moment} {h : List Entry} {m : Moment} → Reached first h m → (b : Beginning) → last_start h ≡ Some b → EachStep (SentSo b) (accepted h)
 unfolding table_after
 reached-sent from = λ b q. absurd (no_start q)
 reached-sent {first} (then {h} {m} r step) = λ b q.

@@ -1,11 +1,10 @@
 -- A site that came from a Start passes refusal 16, and so does the record of each of its nodes: every step keeps what 16 asks of a site, and of a record that
 -- its numbers are in range and that its second pair is no later than b, and known where b is.
 use Prim.Native.Nat.{ℕ, ◌≤◌, ◌<◌}
-use Rattle.std.specs.Prelude.{◌≡◌, Bool, true, false, ◌&&◌, ◌||◌, List, ◌∷◌, eqb, leb, length, set, drop}
+use Rattle.std.specs.Prelude.{◌≡◌, Bool, true, false, ◌&&◌, ◌||◌, List, ◌∷◌, eqb, leb, length, set, drop, Option, None, Some}
 use Rattle.std.proofs.Math.Path.{refl, subst}
 use Rattle.std.proofs.Common.{sym, ap₂, lit<, length-set, get_or-set_same, get_or-set_other}
 use Rattle.std.proofs.Math.Bool.{and-eq-true_iff}
-use Rattle.std.proofs.Math.Option.{Option, none, some}
 use Rattle.std.proofs.Math.ListN.{get_or}
 use borrow.Author.Tests.{eqb-true, eqb-false, leb-true, leb-false, ltb-true}
 use Rattle.refusals.specs.laws.Bools.{left}
@@ -69,10 +68,10 @@ at-node site next records i node before same lent whole new =
 
 -- ---- one step
 
-module _ (h : List Entry) (site : Site) (records : List Node) (before : (b : Beginning) → last_start h ≡ some b → Sound site records) where
+module _ (h : List Entry) (site : Site) (records : List Node) (before : (b : Beginning) → last_start h ≡ Some b → Sound site records) where
   abbrev SoundBy : Step → Out → Type 0
   SoundBy step out =
-      (b : Beginning) → last_start (record { step = step; answer = out.answer } ∷ h) ≡ some b
+      (b : Beginning) → last_start (record { step = step; answer = out.answer } ∷ h) ≡ Some b
       → Sound out.site (table_after_answer out.answer step records out.node)
 
   abbrev node_of : Step → Node
@@ -148,7 +147,7 @@ module _ (h : List Entry) (site : Site) (records : List Node) (before : (b : Beg
 
 -- ---- every sequence
 
-pub reached-sound : {first : Moment} {h : List Entry} {m : Moment} → Reached first h m → (b : Beginning) → last_start h ≡ some b → Sound m.site m.records
+pub reached-sound : {first : Moment} {h : List Entry} {m : Moment} → Reached first h m → (b : Beginning) → last_start h ≡ Some b → Sound m.site m.records
 unfolding table_after
 reached-sound from = λ b q. absurd (no_start q)
 reached-sound (then {h} {m} r step) = still-sound h m.site m.records (reached-sound r) step
@@ -169,7 +168,7 @@ module _ (h : List Entry) (m : Moment) (b : Beginning) where
   NodesSound = (j : ℕ) → j < nodes b.f b.k → node_sound (node_at m j) (nodes b.f b.k) ≡ true
 
 -- the site's n is the one that Start gave
-same-n : {first : Moment} {h : List Entry} {m : Moment} → Reached first h m → (b : Beginning) → last_start h ≡ some b → n m.site ≡ nodes b.f b.k
+same-n : {first : Moment} {h : List Entry} {m : Moment} → Reached first h m → (b : Beginning) → last_start h ≡ Some b → n m.site ≡ nodes b.f b.k
 same-n r b q = let keeps = reached-keeps r b q in ap₂ nodes keeps.same-f keeps.same-k
 
 pub site-sound : Always SiteSound
@@ -194,7 +193,7 @@ pub long-enough : Always LongEnough
 long-enough first h m r b q =
     subst (λ (count : ℕ). count ≤ length m.records) (same-n r b q) (leb-true _ _ (tested m.site (length m.records) (reached-sound r b q).of-site).lends)
 
--- the first test of the table, for every step: a step that names a node from n on, or none, asks for no record
+-- the first test of the table, for every step: a step that names a node from n on, or None, asks for no record
 passes-16 : (site : Site) (records : List Node) (step : Step) → Sound site records
     → are_sound site (length records) (record_of (named step).actor records) (named step) ≡ true
 unfolding actor_sound
@@ -205,12 +204,12 @@ passes-16 site records step s = go (named step).beginning (named step).actor
     below i false e = intact-sound (get_or records i went_down) (n site) (s.of-nodes i (leb-false _ _ e))
 
     of-actor : (actor : Option ℕ) → of_named actor (actor_sound site (record_of actor records)) ≡ true
-    of-actor none = refl
-    of-actor (some i) = below i (leb (n site) i) refl
+    of-actor None = refl
+    of-actor (Some i) = below i (leb (n site) i) refl
 
     go : (b : Option Beginning) (actor : Option ℕ) → unless_start b (site_sound site (length records) && of_named actor (actor_sound site (record_of actor records))) ≡ true
-    go (some b) actor = refl
-    go none actor = (and-eq-true_iff _ _).1 (s.of-site, of-actor actor)
+    go (Some b) actor = refl
+    go None actor = (and-eq-true_iff _ _).1 (s.of-site, of-actor actor)
 
 pub never-damaged : Always NeverDamaged
 unfolding out_of

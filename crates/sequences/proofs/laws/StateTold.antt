@@ -1,12 +1,10 @@
 -- In every sequence the site and its table are what the history tells.
-use Rattle.std.specs.Prelude.{ℕ, ◌+◌, ◌-◌, ◌<◌, ◌≡◌, refl, Bool, false, ◌||◌, cond, ◌⊎◌, eqb, length, drop}
+use Rattle.std.specs.Prelude.{ℕ, ◌+◌, ◌-◌, ◌<◌, ◌≡◌, refl, Bool, false, ◌||◌, cond, ◌⊎◌, eqb, length, drop, Option, Some, unwrap_or}
 use Rattle.std.proofs.Common.{sym, ap, ◌∙◌, inl, inr, arith, get_or-set_same, eqb-true, le-leb}
 use Rattle.std.proofs.Math.Path.{subst}
 use Rattle.std.proofs.Math.Bool.{true}
 use Rattle.std.proofs.lemmas.Bool.{false≢true}
 use mathlib.Core.List.{List, [], ◌∷◌}
-use Rattle.std.proofs.Math.Option
-use Rattle.std.proofs.Math.Option.{Option, some}
 use Rattle.std.proofs.Math.ListN.{get_or}
 use Rattle.refusals.specs.laws.Bools.{left}
 use Rattle.time.specs.declared.Dts.{Dts}
@@ -90,13 +88,13 @@ fresh-made site t T now at = go (eqb t.0 (g site).0) refl now at
 
 module _
     (h : List Entry) (site : Site) (records : List Node)
-    (keeps : (b : Beginning) → last_start h ≡ some b → Keeps b (accepted h) site records)
-    (changes : (b : Beginning) → last_start h ≡ some b → Changing b (accepted h) site)
-    (before : (b : Beginning) → last_start h ≡ some b → Tells b (accepted h) site records)
+    (keeps : (b : Beginning) → last_start h ≡ Some b → Keeps b (accepted h) site records)
+    (changes : (b : Beginning) → last_start h ≡ Some b → Changing b (accepted h) site)
+    (before : (b : Beginning) → last_start h ≡ Some b → Tells b (accepted h) site records)
   where
     abbrev ToldBy : Step → Out → Type 0
     ToldBy step out =
-        (b : Beginning) → last_start (record { step = step; answer = out.answer } ∷ h) ≡ some b
+        (b : Beginning) → last_start (record { step = step; answer = out.answer } ∷ h) ≡ Some b
         → Keeps b (accepted (record { step = step; answer = out.answer } ∷ h)) out.site (table_after_answer out.answer step records out.node)
         → Tells b (accepted (record { step = step; answer = out.answer } ∷ h)) out.site (table_after_answer out.answer step records out.node)
 
@@ -110,7 +108,7 @@ module _
     unfolding effect_of
     begins-anew first e = λ b q kept.
         subst (λ (x : Beginning). Tells x [] (started_site first) (first_records (nodes first.f first.k) first.compromised records))
-        (ap (λ (o : Option Beginning). Option.get_or o b) q) (starts records first)
+        (ap (λ (o : Option Beginning). unwrap_or o b) q) (starts records first)
 
     ticks : Does Tick
     unfolding effect_of
@@ -164,7 +162,7 @@ module _
 
 -- ---- every sequence
 
-pub reached-told : {first : Moment} {h : List Entry} {m : Moment} → Reached first h m → (b : Beginning) → last_start h ≡ some b → Tells b (accepted h) m.site m.records
+pub reached-told : {first : Moment} {h : List Entry} {m : Moment} → Reached first h m → (b : Beginning) → last_start h ≡ Some b → Tells b (accepted h) m.site m.records
 unfolding table_after
 reached-told from = λ b q. absurd (no_start q)
 reached-told (then {h} {m} r step) = λ b q. told-by h m.site m.records (reached-keeps r) (reached-changing r) (reached-told r) step b q (reached-keeps (then r step) b q)

@@ -1,11 +1,10 @@
 -- The breaker's remembered changes are the last eight of those that the history tells.
-use Rattle.std.specs.Prelude.{ℕ, zero, suc, ◌+◌, ◌-◌, ◌≤◌, ◌<◌, ◌≡◌, refl, Bool, true, false, ◌&&◌, cond, List, [], ◌∷◌, eqb, ltb, length, get_or}
+use Rattle.std.specs.Prelude.{ℕ, zero, suc, ◌+◌, ◌-◌, ◌≤◌, ◌<◌, ◌≡◌, refl, Bool, true, false, ◌&&◌, cond, List, [], ◌∷◌, eqb, ltb, length, get_or, Some, None}
 use Rattle.std.proofs.Common.{sym, ap, ap₂, ◌∙◌, arith, ltb-true, ltb-false, lt-ltb, le-ltb, ne_eqb}
 use Rattle.refusals.specs.laws.Bools.{and-true, and-false}
 use Rattle.tables.specs.Tables.{table, get_d-table}
 use Rattle.time.specs.declared.Dts.{Dts}
 use Rattle.pairs.specs.declared.Pair.{Pair}
-use Rattle.pairs.specs.declared.Known.TheVariants.{Yes, No}
 use Rattle.breaker.specs.Breaker.{most_changes, no_change, pair_at, remembered, change_at}
 use Rattle.sequences.specs.Told.{up_to_eight, changes_of, numbered, numbered_of}
 
@@ -40,10 +39,10 @@ remembers-one pairs p = ap₂ (λ (ps : List Pair) (c : ℕ). record { pairs = p
         ∙ get_d-table most_changes (λ k. get_or pairs k no_change) i no_change (omega (arith, l))
 
 -- the change with a number
-at-number : (pairs : List Pair) (back : ℕ) → cond (ltb back (length pairs)) (Yes (get_or pairs back no_change)) No ≡ numbered pairs back
-at-number [] back = ap (λ (x : Bool). cond x (Yes no_change) No) (le-ltb back 0 (omega arith))
-at-number (p ∷ pairs) zero = ap (λ (x : Bool). cond x (Yes p) No) (lt-ltb 0 (suc (length pairs)) (omega arith))
-at-number (p ∷ pairs) (suc back) = ap (λ (x : Bool). cond x (Yes (get_or pairs back no_change)) No) (go (ltb back (length pairs)) refl) ∙ at-number pairs back
+at-number : (pairs : List Pair) (back : ℕ) → cond (ltb back (length pairs)) (Some (get_or pairs back no_change)) None ≡ numbered pairs back
+at-number [] back = ap (λ (x : Bool). cond x (Some no_change) None) (le-ltb back 0 (omega arith))
+at-number (p ∷ pairs) zero = ap (λ (x : Bool). cond x (Some p) None) (lt-ltb 0 (suc (length pairs)) (omega arith))
+at-number (p ∷ pairs) (suc back) = ap (λ (x : Bool). cond x (Some (get_or pairs back no_change)) None) (go (ltb back (length pairs)) refl) ∙ at-number pairs back
   where
     go : (x : Bool) → ltb back (length pairs) ≡ x → ltb (suc back) (suc (length pairs)) ≡ ltb back (length pairs)
     go true e = let l : back < length pairs = ltb-true _ _ e in lt-ltb (suc back) (suc (length pairs)) (omega (arith, l)) ∙ sym e
@@ -61,10 +60,10 @@ unfolding change_at
 change-numbered pair clock pairs back = go (ltb back most_changes) refl
   where
     go : (x : Bool) → ltb back most_changes ≡ x
-        → cond (ltb back (up_to_eight (length pairs)) && x) (Yes (pair_at (changes_of pairs) back)) No ≡ cond x (numbered pairs back) No
+        → cond (ltb back (up_to_eight (length pairs)) && x) (Some (pair_at (changes_of pairs) back)) None ≡ cond x (numbered pairs back) None
     go true e =
         let l : back < 8 = ltb-true back 8 e in
-        ap (λ (y : Bool). cond y (Yes (pair_at (changes_of pairs) back)) No) (and-true (ltb back (up_to_eight (length pairs))) ∙ few (length pairs) back l)
-        ∙ ap (λ (p : Pair). cond (ltb back (length pairs)) (Yes p) No) (get_d-table most_changes (λ k. get_or pairs k no_change) back no_change l)
+        ap (λ (y : Bool). cond y (Some (pair_at (changes_of pairs) back)) None) (and-true (ltb back (up_to_eight (length pairs))) ∙ few (length pairs) back l)
+        ∙ ap (λ (p : Pair). cond (ltb back (length pairs)) (Some p) None) (get_d-table most_changes (λ k. get_or pairs k no_change) back no_change l)
         ∙ at-number pairs back
-    go false e = ap (λ (y : Bool). cond y (Yes (pair_at (changes_of pairs) back)) No) (and-false (ltb back (up_to_eight (length pairs))))
+    go false e = ap (λ (y : Bool). cond y (Some (pair_at (changes_of pairs) back)) None) (and-false (ltb back (up_to_eight (length pairs))))

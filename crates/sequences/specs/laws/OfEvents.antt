@@ -1,6 +1,5 @@
 -- What the history says of an event is what the event is to the node.
-use Rattle.std.specs.Prelude.{ℕ, ◌<◌, ◌≡◌, refl, true}
-use Rattle.std.proofs.Math.Option.{some}
+use Rattle.std.specs.Prelude.{ℕ, ◌<◌, ◌≡◌, refl, true, Some}
 use Rattle.std.proofs.Common.{leb-true}
 use Rattle.time.specs.declared.Dts.{Dts}
 use Rattle.senders.specs.Masks.{room}
@@ -15,7 +14,7 @@ use Rattle.sequences.specs.History.{fresh_named}
 
 -- the shares that it delivers
 pub delivered-as-told : (t : Dts) (event : Event) (k : ℕ)
-    → delivered_from k (said_by event).sender (said_by event).status (fresh_named (some t) (said_by event).stamps) ≡ delivered_by t event k
+    → delivered_from k (said_by event).sender (said_by event).status (fresh_named (Some t) (said_by event).stamps) ≡ delivered_by t event k
 delivered-as-told t event k = refl
 
 -- which are of a sender and an action that there are: row 2

@@ -1,8 +1,7 @@
 -- An accepted step has passed its tests; and from a site that is not started, every accepted change comes after an accepted Start.
-use Rattle.std.specs.Prelude.{◌≡◌, refl, true, false, List, ◌∷◌, length}
+use Rattle.std.specs.Prelude.{◌≡◌, refl, true, false, List, ◌∷◌, length, Some, None}
 use Rattle.std.proofs.Common.{sym, ◌∙◌}
 use Rattle.std.proofs.lemmas.Bool.{false≢true}
-use Rattle.std.proofs.Math.Option.{none, some}
 use Rattle.refusals.specs.laws.Bools.{left}
 use Rattle.time.specs.declared.Dts.{Dts}
 use Rattle.node.specs.declared.Node.{Node}
@@ -31,9 +30,9 @@ accepted-passed m step =
     (λ out. is_done out.answer ≡ true → Passes m.site (length m.records) (record_of (named step).actor m.records) step)
     m.site (length m.records) (record_of (named step).actor m.records) step (λ e done. e) (λ number done. absurd (false≢true done))
 
-module _ (h : List Entry) (site : Site) (records : List Node) (before : site.started ≡ true → (b : Beginning) × (last_start h ≡ some b)) where
+module _ (h : List Entry) (site : Site) (records : List Node) (before : site.started ≡ true → (b : Beginning) × (last_start h ≡ Some b)) where
   abbrev StartedBy : Step → Out → Type 0
-  StartedBy step out = out.site.started ≡ true → (b : Beginning) × (last_start (record { step = step; answer = out.answer } ∷ h) ≡ some b)
+  StartedBy step out = out.site.started ≡ true → (b : Beginning) × (last_start (record { step = step; answer = out.answer } ∷ h) ≡ Some b)
 
   done : (step : Step) (node : Node) → StartedBy step (effect_of site node step)
   unfolding effect_of act commanded turned ticked
@@ -49,13 +48,13 @@ module _ (h : List Entry) (site : Site) (records : List Node) (before : site.sta
   started-by step = by_tests (StartedBy step) site (length records) (record_of (named step).actor records) step (λ e. done step (record_of (named step).actor records)) (λ number. before)
 
 started : {first : Moment} {h : List Entry} {m : Moment} → first.site.started ≡ false → Reached first h m → m.site.started ≡ true
-    → (b : Beginning) × (last_start h ≡ some b)
+    → (b : Beginning) × (last_start h ≡ Some b)
 started not_yet from = λ e. absurd (false≢true (sym not_yet ∙ e))
 started not_yet (then {h} {m} r step) = started-by h m.site m.records (started not_yet r) step
 
 pub started-before : {first : Moment} {h : List Entry} {m : Moment} → first.site.started ≡ false → Reached first h m
-    → (t : Dts) (command : Act) → Accepts m (AtBreaker t command) → (b : Beginning) × (last_start h ≡ some b)
+    → (t : Dts) (command : Act) → Accepts m (AtBreaker t command) → (b : Beginning) × (last_start h ≡ Some b)
 started-before {m = m} not_yet r t command taken =
     let e = accepted-passed m (AtBreaker t command) taken in
     started not_yet r
-    (sound m.site (length m.records) (left _ true (row-passed m.site (length m.records) (record_of none m.records) (AtBreaker t command) 16 e))).is-started
+    (sound m.site (length m.records) (left _ true (row-passed m.site (length m.records) (record_of None m.records) (AtBreaker t command) 16 e))).is-started

@@ -1,10 +1,11 @@
-use mathlib.Core.Path.{◌∙◌}
+use Rattle.std.proofs.Common.{sym, ◌∙◌}
 use Rattle.stepping.specs.laws.Given.{breaker-stepped}
 use Rattle.stepping.proofs.at_breaker.Goals as goal
 
-pub returns : goal.returns
-returns c =
-    let part = c.at_breaker-part in
-    let a = c.args in
-    (λ j. record { answer = c.answer_by-answer.ensures j; site = c.with_breaker-next.ensures j; node = a.node })
-    ∙ breaker-stepped a.site a.lent a.node _ a.t a.act c.is_site_sound-sound.ensures part.result (part.ensures a.node)
+pub returns-in-Ok : goal.returns-in-Ok
+returns-in-Ok c =
+    let a = c.args in breaker-stepped a.site a.lent a.node _ a.t a.act c.is_site_sound-sound.ensures _ (sym c.in-Ok.is ∙ c.at_breaker.ensures a.node)
+
+pub returns-in-Err : goal.returns-in-Err
+returns-in-Err c =
+    let a = c.args in breaker-stepped a.site a.lent a.node _ a.t a.act c.is_site_sound-sound.ensures _ (sym c.in-Err.is ∙ c.at_breaker.ensures a.node)

@@ -1,11 +1,12 @@
-use mathlib.Core.Path.{ap, ◌∙◌}
-use Rattle.site.specs.laws.Answers.{answer_of}
+use Rattle.std.proofs.Common.{sym, ◌∙◌}
 use Rattle.stepping.specs.laws.Given.{tick-stepped}
 use Rattle.stepping.proofs.tick.Goals as goal
 
-pub returns : goal.returns
-returns c =
-    let part = c.tick-part in
+pub returns-in-Ok : goal.returns-in-Ok
+returns-in-Ok c =
     let a = c.args in
-    (λ j. record { answer = (c.answer_by-answer.ensures ∙ ap (answer_of part.result.refusal) c.silence.ensures) j; site = c.with_made-next.ensures j; node = a.node })
-    ∙ tick-stepped a.site a.lent a.node _ c.is_site_sound-sound.ensures part.result (part.ensures a.node)
+    rw c.silence.ensures (tick-stepped a.site a.lent a.node _ c.is_site_sound-sound.ensures _ (sym c.in-Ok.is ∙ c.tick.ensures a.node))
+
+pub returns-in-Err : goal.returns-in-Err
+returns-in-Err c =
+    let a = c.args in tick-stepped a.site a.lent a.node _ c.is_site_sound-sound.ensures _ (sym c.in-Err.is ∙ c.tick.ensures a.node)

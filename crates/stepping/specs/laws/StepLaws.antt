@@ -1,6 +1,7 @@
 -- What a step's refusal decides.
-use Rattle.std.specs.Prelude.{ℕ, ◌≡◌, refl, Bool, true, false, cond, eqb}
-use Rattle.std.proofs.Common.{sym, ap, ◌∙◌, eq-eqb, ne_eqb, eqb-true}
+use Rattle.std.specs.Prelude.{ℕ, ◌≡◌, refl, true, Result, Ok, Err}
+use Rattle.std.proofs.Common.{ap}
+use Rattle.refusals.specs.declared.Refusal.{Refusal}
 use Rattle.refusals.specs.Tests.{refusal}
 use Rattle.steps.specs.declared.Step.{Step}
 use Rattle.steps.specs.declared.Step.TheVariants.{Start, Tick, AtNode, Life, AtBreaker}
@@ -13,26 +14,24 @@ use Rattle.effects.specs.Effects.{act, commanded, turned, effect_of}
 use Rattle.refusing.specs.Tests.{tests_of}
 use Rattle.stepping.specs.Steps.{decided, stepped}
 
-module _ (number no : ℕ) (out : Out) (site : Site) (node : Node) where
-  pub when-refused : no ≡ number → (no ≡ 0 → ⊥) → refused no site node ≡ decided number out site node
-  when-refused e h =
-      ap (λ (k : ℕ). refused k site node) e
-      ∙ sym (ap (λ (b : Bool). cond b out (refused number site node)) (ap (λ (k : ℕ). eqb k 0) (sym e) ∙ ne_eqb no 0 h))
+module _ (answer : Result (Unit {0}) Refusal) (out : Out) (site : Site) (node : Node) where
+  pub when-refused : {fault : Refusal} → Err fault ≡ answer → refused fault site node ≡ decided answer out site node
+  when-refused is = ap (λ (x : Result (Unit {0}) Refusal). decided x out site node) is
 
-  pub when-done : no ≡ number → no ≡ 0 → out ≡ decided number out site node
-  when-done e h = sym (ap (λ (b : Bool). cond b out (refused number site node)) (ap (λ (k : ℕ). eqb k 0) (sym e) ∙ eq-eqb no 0 h))
+  pub when-done : {u : Unit {0}} → Ok u ≡ answer → out ≡ decided answer out site node
+  when-done is = ap (λ (x : Result (Unit {0}) Refusal). decided x out site node) is
 
 -- ---- every step
 
 -- what holds of the effect, if all tests are passed, and of each refusal, holds of the step
-pub by_tests : (P : Out → Type 0) (site : Site) (lent : ℕ) (node : Node) (step : Step) → (refusal (tests_of site lent node step) ≡ 0 → P (effect_of site node step))
-    → ((number : ℕ) → P (refused number site node)) → P (stepped site lent node step)
+pub by_tests : (P : Out → Type 0) (site : Site) (lent : ℕ) (node : Node) (step : Step) → (refusal (tests_of site lent node step) ≡ Ok tt → P (effect_of site node step))
+    → ((fault : Refusal) → P (refused fault site node)) → P (stepped site lent node step)
 unfolding stepped
-by_tests P site lent node step done fails = go (eqb (refusal (tests_of site lent node step)) 0) refl
+by_tests P site lent node step done fails = go (refusal (tests_of site lent node step)) refl
   where
-    go : (b : Bool) → eqb (refusal (tests_of site lent node step)) 0 ≡ b → P (cond b (effect_of site node step) (refused (refusal (tests_of site lent node step)) site node))
-    go true e = done (eqb-true (refusal (tests_of site lent node step)) 0 e)
-    go false e = fails (refusal (tests_of site lent node step))
+    go : (answer : Result (Unit {0}) Refusal) → refusal (tests_of site lent node step) ≡ answer → P (decided answer (effect_of site node step) site node)
+    go (Ok tt) e = done e
+    go (Err fault) e = fails fault
 
 pub effect-done : (site : Site) (node : Node) (step : Step) → is_done (effect_of site node step).answer ≡ true
 unfolding effect_of act turned commanded

@@ -1,5 +1,5 @@
 -- What `earliest` answers: a stamp is the earliest of those that qualify, and nothing means that none does.
-use Rattle.std.specs.Prelude.{ℕ, zero, suc, ◌+◌, ◌-◌, ◌^◌, ◌≤◌, ◌<◌, ◌≡◌, refl, Bool, ◌&&◌, cond, List, [], ◌∷◌, ◌⊎◌, leb, ltb, drop}
+use Rattle.std.specs.Prelude.{ℕ, zero, suc, ◌+◌, ◌-◌, ◌^◌, ◌≤◌, ◌<◌, ◌≡◌, refl, Bool, ◌&&◌, cond, List, [], ◌∷◌, ◌⊎◌, leb, ltb, drop, Some, None}
 use Rattle.std.proofs.Common.{sym, ap, ap₂, ◌∙◌, inl, inr, not-suc-le-zero, add-one, arith, drop_of_length-le, drop-cons}
 use Rattle.std.proofs.Math.Bool.{true, false, and-eq-true_iff, and-false}
 use borrow.Author.Tests.{ltb-true, leb-true, lt-ltb, le-ltb, le-leb, leb-false}
@@ -9,7 +9,6 @@ use Rattle.senders.specs.Masks.{size, enough}
 use Rattle.senders.proofs.laws.MaskLaws.{size_none, none-enough}
 use Rattle.tables.specs.Tables.{table, length-table, get_d-table}
 use Rattle.store.specs.declared.Store.{Store}
-use Rattle.store.specs.declared.Earliest.TheVariants.{Stamp, Nothing}
 use Rattle.store.specs.Store.{actions, stamps, has_place, place, set_at, senders_of}
 use Rattle.store.specs.laws.Places.{bounds}
 use Rattle.store.specs.Earliest.{dts, fresh_stamp, fresh_stamps, qualifies, first_of, earliest}
@@ -17,18 +16,18 @@ use Rattle.store.specs.Earliest.{dts, fresh_stamp, fresh_stamps, qualifies, firs
 -- ---- a search of a list that a rule makes, from place i on
 
 module _ (test : ℕ → Bool) (n : ℕ) (rule : ℕ → ℕ) (i : ℕ) where
-  from-here : i < n → first_of test (drop i (table n rule)) ≡ cond (test (rule i)) (Stamp (dts (rule i))) (first_of test (drop (i + 1) (table n rule)))
+  from-here : i < n → first_of test (drop i (table n rule)) ≡ cond (test (rule i)) (Some (dts (rule i))) (first_of test (drop (i + 1) (table n rule)))
   from-here h =
       ap (first_of test) (drop-cons (table n rule) i 0 (rw (length-table n rule) h))
-      ∙ ap₂ (λ (T j : ℕ). cond (test T) (Stamp (dts T)) (first_of test (drop j (table n rule)))) (get_d-table n rule i 0 h) (sym (add-one i))
+      ∙ ap₂ (λ (T j : ℕ). cond (test T) (Some (dts T)) (first_of test (drop j (table n rule)))) (get_d-table n rule i 0 h) (sym (add-one i))
 
-  found_here : i < n → test (rule i) ≡ true → first_of test (drop i (table n rule)) ≡ Stamp (dts (rule i))
-  found_here h e = from-here h ∙ ap (λ (b : Bool). cond b (Stamp (dts (rule i))) (first_of test (drop (i + 1) (table n rule)))) e
+  found_here : i < n → test (rule i) ≡ true → first_of test (drop i (table n rule)) ≡ Some (dts (rule i))
+  found_here h e = from-here h ∙ ap (λ (b : Bool). cond b (Some (dts (rule i))) (first_of test (drop (i + 1) (table n rule)))) e
 
   found-later : i < n → test (rule i) ≡ false → first_of test (drop i (table n rule)) ≡ first_of test (drop (i + 1) (table n rule))
-  found-later h e = from-here h ∙ ap (λ (b : Bool). cond b (Stamp (dts (rule i))) (first_of test (drop (i + 1) (table n rule)))) e
+  found-later h e = from-here h ∙ ap (λ (b : Bool). cond b (Some (dts (rule i))) (first_of test (drop (i + 1) (table n rule)))) e
 
-  pub found-never : n ≤ i → first_of test (drop i (table n rule)) ≡ Nothing
+  pub found-never : n ≤ i → first_of test (drop i (table n rule)) ≡ None
   found-never h = ap (first_of test) (drop_of_length-le (table n rule) {i = i} (rw (length-table n rule) h))
 
 -- a stamp that qualifies is one that 32 bits hold
@@ -41,7 +40,7 @@ qualifies-fits s a above f T e = ltb-true T (2 ^ 32) ((and-eq-true_iff (ltb abov
 abbrev pub Found : (ℕ → Bool) → ℕ → (ℕ → ℕ) → Dts → Type 0
 Found test n rule d = (i : ℕ) × (i < n) × (rule i ≡ d.0) × (test (rule i) ≡ true) × ((j : ℕ) → j < i → test (rule j) ≡ false)
 
-pub search-found : (test : ℕ → Bool) (n : ℕ) (rule : ℕ → ℕ) (d : Dts) → first_of test (table n rule) ≡ Stamp d → Found test n rule d
+pub search-found : (test : ℕ → Bool) (n : ℕ) (rule : ℕ → ℕ) (d : Dts) → first_of test (table n rule) ≡ Some d → Found test n rule d
 unfolding table
 search-found test zero rule d e = let z : ◌≡◌ {A = ℕ} 0 1 = cc in absurd (omega arith)
 search-found test (suc n) rule d e = go (test (rule zero)) refl e (search-found test n (λ i. rule (suc i)) d)
@@ -56,18 +55,18 @@ search-found test (suc n) rule d e = go (test (rule zero)) refl e (search-found 
     later : test (rule zero) ≡ false → Found test n (λ i. rule (suc i)) d → Found test (suc n) rule d
     later et r = (suc r.0, omega arith, r.2, r.3, earlier et r.0 r.4)
 
-    go : (b : Bool) → test (rule zero) ≡ b → cond b (Stamp (dts (rule zero))) (first_of test (table n (λ i. rule (suc i)))) ≡ Stamp d
-        → (first_of test (table n (λ i. rule (suc i))) ≡ Stamp d → Found test n (λ i. rule (suc i)) d) → Found test (suc n) rule d
+    go : (b : Bool) → test (rule zero) ≡ b → cond b (Some (dts (rule zero))) (first_of test (table n (λ i. rule (suc i)))) ≡ Some d
+        → (first_of test (table n (λ i. rule (suc i))) ≡ Some d → Found test n (λ i. rule (suc i)) d) → Found test (suc n) rule d
     go true et e ih = let q : dts (rule zero) ≡ d = cc in first et (ap (λ (x : Dts). x.0) q)
     go false et e ih = later et (ih e)
 
-pub search-nothing : (test : ℕ → Bool) (n : ℕ) (rule : ℕ → ℕ) → first_of test (table n rule) ≡ Nothing → (j : ℕ) → j < n → test (rule j) ≡ false
+pub search-nothing : (test : ℕ → Bool) (n : ℕ) (rule : ℕ → ℕ) → first_of test (table n rule) ≡ None → (j : ℕ) → j < n → test (rule j) ≡ false
 unfolding table
 search-nothing test zero rule e j l = absurd (not-suc-le-zero l)
 search-nothing test (suc n) rule e j l = go (test (rule zero)) refl e (search-nothing test n (λ i. rule (suc i))) j l
   where
-    go : (b : Bool) → test (rule zero) ≡ b → cond b (Stamp (dts (rule zero))) (first_of test (table n (λ i. rule (suc i)))) ≡ Nothing
-        → (first_of test (table n (λ i. rule (suc i))) ≡ Nothing → (j : ℕ) → j < n → test (rule (suc j)) ≡ false) → (j : ℕ) → j < suc n → test (rule j) ≡ false
+    go : (b : Bool) → test (rule zero) ≡ b → cond b (Some (dts (rule zero))) (first_of test (table n (λ i. rule (suc i)))) ≡ None
+        → (first_of test (table n (λ i. rule (suc i))) ≡ None → (j : ℕ) → j < n → test (rule (suc j)) ≡ false) → (j : ℕ) → j < suc n → test (rule j) ≡ false
     go true et e ih j l = let z : ◌≡◌ {A = ℕ} 0 1 = cc in absurd (omega arith)
     go false et e ih zero l = et
     go false et e ih (suc j) l = ih e j (omega arith)
@@ -101,7 +100,7 @@ at-stamp : (s : Store) (a : ℕ) (U : Dts) → has_place s.clock a U ≡ true �
 at-stamp s a U e = let b = bounds s.clock a U e in (omega arith, omega arith)
 
 -- No stamp above the bound is held from at least f + 1 senders.
-pub earliest-nothing : (s : Store) (a : ℕ) (above : Dts) (f : ℕ) → earliest s a above f ≡ Nothing
+pub earliest-nothing : (s : Store) (a : ℕ) (above : Dts) (f : ℕ) → earliest s a above f ≡ None
     → (U : Dts) → above.0 < U.0 → U.0 < 2 ^ 32 → size (senders_of s a U) ≤ f
 unfolding earliest
 earliest-nothing s a above f e U h k = go (leb (size (senders_of s a U)) f) refl
@@ -113,7 +112,7 @@ earliest-nothing s a above f e U h k = go (leb (size (senders_of s a U)) f) refl
         let p = at-stamp s a U has in
         too_few s a above f U.0 h k (rw p.1 at (search-nothing (qualifies s a above f) stamps (fresh_stamp s.clock) e (U.0 + window - s.clock.0) p.0))
 
-pub earliest-stamp : (s : Store) (a : ℕ) (above : Dts) (f : ℕ) (T : Dts) → earliest s a above f ≡ Stamp T → IsEarliest s a above f T
+pub earliest-stamp : (s : Store) (a : ℕ) (above : Dts) (f : ℕ) (T : Dts) → earliest s a above f ≡ Some T → IsEarliest s a above f T
 unfolding earliest qualifies
 earliest-stamp s a above f T e =
     let r = search-found (qualifies s a above f) stamps (fresh_stamp s.clock) T e in
@@ -137,7 +136,7 @@ earliest-stamp s a above f T e =
         too_few s a above f U.0 h (omega arith) (rw p.1 at (r.4 (U.0 + window - s.clock.0) j))
 
 -- A stamp that is found is no further ahead of the clock than a fresh one may be.
-pub earliest-ahead : (s : Store) (a : ℕ) (above : Dts) (f : ℕ) (T : Dts) → earliest s a above f ≡ Stamp T → T.0 ≤ s.clock.0 + window
+pub earliest-ahead : (s : Store) (a : ℕ) (above : Dts) (f : ℕ) (T : Dts) → earliest s a above f ≡ Some T → T.0 ≤ s.clock.0 + window
 unfolding earliest
 earliest-ahead s a above f T e =
     let r = search-found (qualifies s a above f) stamps (fresh_stamp s.clock) T e in
@@ -148,11 +147,11 @@ earliest-ahead s a above f T e =
 -- ---- the search as the code makes it: by the places of the array
 
 -- what is no action is held from nobody
-pub no-action : (s : Store) (a : ℕ) (above : Dts) (f : ℕ) → actions ≤ a → earliest s a above f ≡ Nothing
+pub no-action : (s : Store) (a : ℕ) (above : Dts) (f : ℕ) → actions ≤ a → earliest s a above f ≡ None
 unfolding earliest qualifies senders_of has_place
 no-action s a above f h = none (fresh_stamps s.clock)
   where
-    none : (l : List ℕ) → first_of (qualifies s a above f) l ≡ Nothing
+    none : (l : List ℕ) → first_of (qualifies s a above f) l ≡ None
     none [] = refl
     none (T ∷ Ts) = simp (le-ltb a actions h, none-enough f, and-false) (none Ts)
 
@@ -163,7 +162,7 @@ module _ (s : Store) (a : ℕ) (above : Dts) (f i T : ℕ) (h : a < actions) (l 
   senders-there = simp (lt-ltb _ _ h, le-leb (s.clock.0 - window) T (omega arith), le-leb T (s.clock.0 + window) (omega arith))
 
   pub taken : above.0 < T → enough (set_at s (place a (dts T))) f ≡ true → T < 2 ^ 32
-      → first_of (qualifies s a above f) (drop i (fresh_stamps s.clock)) ≡ Stamp (dts T)
+      → first_of (qualifies s a above f) (drop i (fresh_stamps s.clock)) ≡ Some (dts T)
   unfolding qualifies
   taken b q k = rw e (found_here (qualifies s a above f) stamps (fresh_stamp s.clock) i l (rw e at passes))
     where

@@ -9,6 +9,9 @@ unfolding spelled
 length-spelled zero n = refl
 length-spelled (suc w) n = length-append (spelled w (n / 10)) ((n % 10 + 48) ∷ []) ∙ ap (λ (k : ℕ). k + 1) (length-spelled w (n / 10)) ∙ add-one w
 
+pub spelled-short : (w n : ℕ) → length (spelled w n) ≤ w
+spelled-short w n = omega (arith, length-spelled w n)
+
 places-le : (k n : ℕ) → places_in k n ≤ k
 unfolding places_in
 places-le zero n = omega arith

@@ -1,11 +1,9 @@
 -- How long a line is, and that a text which was put at the front of a buffer stands there, whole.
-use Rattle.std.specs.Prelude.{ℕ, ◌+◌, ◌≤◌, ◌≡◌, refl, List, [], ◌∷◌, ◌++◌, length, take, drop}
+use Rattle.std.specs.Prelude.{ℕ, ◌+◌, ◌≤◌, ◌≡◌, refl, List, [], ◌∷◌, ◌++◌, length, take, drop, Ok, Err}
 use Rattle.std.proofs.Common.{ap, ◌∙◌, arith, length-append, take_at}
 use Rattle.std.proofs.lemmas.List.Edits.{sets, sets-eq}
 use Rattle.pairs.specs.declared.Pair.{Pair}
-use Rattle.site.specs.declared.Answer.{Answer}
-use Rattle.site.specs.declared.Answer.TheVariants.{Done, Refused}
-use Rattle.site.specs.Answers.{Message, messages_of}
+use Rattle.site.specs.Answers.{Message, messages_of, Answer}
 use Rattle.text.specs.Decimal.{decimal}
 use Rattle.text.specs.Line.{message_text, pair_text, after_commas, tail_text, head_with, line_with, message_tail, message_line}
 use Rattle.text.specs.Lines.{longest_line}
@@ -20,8 +18,8 @@ length-tail i (m ∷ ms) = omega (arith, length-append (message_text i m ++ afte
 
 sent-long : (i : ℕ) (answer : Answer) → length (after_commas i (messages_of answer)) ≤ 160
 unfolding after_commas
-sent-long i (Done sent) = length-sent i sent.shares sent.commands sent.ack
-sent-long i (Refused number) = omega arith
+sent-long i (Ok sent) = length-sent i sent.shares sent.commands sent.ack
+sent-long i (Err refusal) = omega arith
 
 -- no line is longer than the longest: of an answer,
 pub line-short : (number refusal status stamp i : ℕ) (answer : Answer) → length (line_with number refusal status stamp i (messages_of answer)) ≤ longest_line

@@ -1,17 +1,17 @@
 use Rattle.std.proofs.Common.{arith, le-leb}
 use borrow.Author.Tests.{lt-leb}
-use Rattle.refusals.specs.Tests.{refusal, passed}
+use Rattle.refusals.specs.Tests.{refusal}
 use Rattle.time.specs.Discretising.{discretised_by}
 use Rattle.time.specs.laws.Rounding.{remainder-fits, quotient_fits, rounded-first}
 use Rattle.time.proofs.discretise_by.Goals as goal
 
 pub returns-then-width-lt-SHORTEST_INTERVAL : goal.returns-then-width-lt-SHORTEST_INTERVAL
-unfolding discretised_by refusal passed
-returns-then-width-lt-SHORTEST_INTERVAL c = simp (c.refused.ensures, lt-leb _ _ c.if-width-lt-SHORTEST_INTERVAL.true)
+unfolding discretised_by refusal
+returns-then-width-lt-SHORTEST_INTERVAL c = simp (lt-leb _ _ c.if-width-lt-SHORTEST_INTERVAL.true)
 
 pub returns-then-width-gt-LONGEST_INTERVAL : goal.returns-then-width-gt-LONGEST_INTERVAL
-unfolding discretised_by refusal passed
-returns-then-width-gt-LONGEST_INTERVAL c = simp (c.refused-then-width-gt-LONGEST_INTERVAL.ensures, le-leb _ _ c.if-width-lt-SHORTEST_INTERVAL.false, lt-leb _ _ c.if-width-gt-LONGEST_INTERVAL.true)
+unfolding discretised_by refusal
+returns-then-width-gt-LONGEST_INTERVAL c = simp (le-leb _ _ c.if-width-lt-SHORTEST_INTERVAL.false, lt-leb _ _ c.if-width-gt-LONGEST_INTERVAL.true)
 
 pub overflow_add-stamp : goal.overflow_add-stamp
 overflow_add-stamp c =
@@ -24,15 +24,15 @@ overflow_add-stamp-2 c =
     record { fits = quotient_fits a.rounding a.interval.0 a.reading.0 _ c.if-width-lt-SHORTEST_INTERVAL.false c.if-width-gt-LONGEST_INTERVAL.false (omega (arith, c.well_formed)) c.added-more.ensures }
 
 pub returns-then-stamp-gt-LAST_STAMP : goal.returns-then-stamp-gt-LAST_STAMP
-unfolding discretised_by refusal passed
+unfolding discretised_by refusal
 returns-then-stamp-gt-LAST_STAMP c =
     let a = c.args in
     let low = c.if-width-lt-SHORTEST_INTERVAL.false in
     let same = rounded-first a.rounding a.reading a.interval _ c.added-more.ensures (omega (arith, low)) in
-    simp (c.refused-then-stamp-gt-LAST_STAMP.ensures, le-leb _ _ low, le-leb _ _ c.if-width-gt-LONGEST_INTERVAL.false, lt-leb _ _ (rw same at c.if-stamp-gt-LAST_STAMP.true))
+    simp (le-leb _ _ low, le-leb _ _ c.if-width-gt-LONGEST_INTERVAL.false, lt-leb _ _ (rw same at c.if-stamp-gt-LAST_STAMP.true))
 
 pub returns : goal.returns
-unfolding discretised_by refusal passed
+unfolding discretised_by refusal
 returns c =
     let a = c.args in
     let low = c.if-width-lt-SHORTEST_INTERVAL.false in

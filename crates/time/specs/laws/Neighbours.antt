@@ -1,15 +1,16 @@
 -- "Of two accepted readings at most one interval apart, the stamps are equal or consecutive."
-use Rattle.std.specs.Prelude.{◌≡◌, ℕ, ◌+◌, ◌*◌, ◌/◌, ◌<◌, ◌≤◌, Bool, true, false, ◌&&◌, ◌⊎◌, nat_le, nat_lt}
+use Rattle.std.specs.Prelude.{◌≡◌, ℕ, ◌+◌, ◌*◌, ◌/◌, ◌<◌, ◌≤◌, Bool, true, false, ◌&&◌, ◌⊎◌, nat_le, nat_lt, Result, Ok, Err}
 use Rattle.std.proofs.Math.Path.{refl}
 use Rattle.std.proofs.lemmas.Bool.{false≢true}
-use Rattle.std.proofs.Common.{inl, inr, le_trans, mul_comm, le-div_iff_mul-le, arith}
+use Rattle.std.proofs.Common.{ap, inl, inr, le_trans, mul_comm, le-div_iff_mul-le, arith}
 use Rattle.std.proofs.Math.Nat.{mul-div-le, add-div_right}
 use borrow.Author.Tests.{leb-true, ltb-true, ltb-false}
-use Rattle.refusals.specs.Tests.{passed}
-use Rattle.refusals.specs.laws.Tests.{done-passed}
+use Rattle.refusals.specs.declared.Refusal.{Refusal}
+use Rattle.refusals.specs.Tests.{refusal, giving, passed}
+use Rattle.refusals.specs.laws.Tests.{numbered, done-passed}
 use Rattle.time.specs.declared.Micros.{Micros}
 use Rattle.time.specs.declared.Rounding.{Rounding}
-use Rattle.time.specs.Discretising.{shortest_interval, added, whole_part, discretising_tests, discretised_by}
+use Rattle.time.specs.Discretising.{shortest_interval, added, whole_part, discretising_tests, discretised_by, in_numbers}
 
 div_mono : (i a b : ℕ) → 0 < i → a ≤ b → a / i ≤ b / i
 div_mono i a b h l = (le-div_iff_mul-le h).1 (le_trans low l)
@@ -36,18 +37,28 @@ quotients i a b h l m = equal-or-next (a / i) (b / i) (div_mono i a b h l) (rw (
 module _ (rounding : Rounding) where
   -- a reading is accepted
   abbrev pub AcceptedReading : Micros → Micros → Type 0
-  AcceptedReading reading interval = (discretised_by rounding reading interval).refusal ≡ 0
+  AcceptedReading reading interval = (in_numbers (discretised_by rounding reading interval)).refusal ≡ 0
 
   abbrev pub stamp_of : Micros → Micros → ℕ
-  stamp_of reading interval = (discretised_by rounding reading interval).stamp.0
+  stamp_of reading interval = (in_numbers (discretised_by rounding reading interval)).stamp.0
+
+  -- every test is passed
+  no-refusal : (reading interval : Micros) → AcceptedReading reading interval → refusal (discretising_tests rounding reading interval) ≡ Ok tt
+  unfolding discretised_by
+  no-refusal reading interval e = go (refusal (discretising_tests rounding reading interval)) e
+    where
+      go : (answer : Result (Unit {0}) Refusal) → (in_numbers (giving answer (record { 0 = whole_part rounding reading interval }))).refusal ≡ 0 → answer ≡ Ok tt
+      go (Ok tt) e = refl
+      go (Err refusal) e = absurd (omega (arith, numbered refusal, e))
 
   all-passed : (reading interval : Micros) → AcceptedReading reading interval → passed (discretising_tests rounding reading interval) ≡ true
-  unfolding discretised_by
-  all-passed reading interval e = done-passed (discretising_tests rounding reading interval) refl e
+  all-passed reading interval e = done-passed (discretising_tests rounding reading interval) (no-refusal reading interval e)
 
   pub accepted-stamp : (reading interval : Micros) → AcceptedReading reading interval → stamp_of reading interval ≡ whole_part rounding reading interval
   unfolding discretised_by
-  accepted-stamp reading interval e = simp (all-passed reading interval e)
+  accepted-stamp reading interval e =
+      ap (λ (answer : Result (Unit {0}) Refusal). (in_numbers (giving answer (record { 0 = whole_part rounding reading interval }))).stamp.0)
+      (no-refusal reading interval e)
 
   pub accepted-interval : (reading interval : Micros) → AcceptedReading reading interval → 0 < interval.0
   unfolding passed

@@ -1,5 +1,5 @@
 -- §9 of 02: no node sends a command whose stamp is no longer fresh, and a resend timeout that finds the stamp so leaves none of it.
-use Rattle.std.specs.Prelude.{ℕ, ◌≤◌, ◌≡◌, Bool, not, ◌&&◌, ◌||◌, cond, eqb}
+use Rattle.std.specs.Prelude.{ℕ, ◌≤◌, ◌≡◌, Bool, not, ◌&&◌, ◌||◌, cond, eqb, Option, Some, None}
 use Rattle.std.proofs.Math.Path.{refl, subst}
 use Rattle.std.proofs.Common.{sym, ap, ◌∙◌, eqb-true}
 use Rattle.std.proofs.Math.Bool.{true, false}
@@ -8,16 +8,10 @@ use Rattle.refusals.specs.laws.Bools.{right}
 use Rattle.time.specs.declared.Dts.{Dts}
 use Rattle.time.specs.Fresh.{fresh}
 use Rattle.store.specs.declared.Store.{Store}
-use Rattle.store.specs.declared.Earliest.{Earliest}
-use Rattle.store.specs.declared.Earliest.TheVariants.{Stamp, Nothing}
 use Rattle.store.specs.Earliest.{qualifies, earliest}
 use Rattle.pairs.specs.declared.Pair.{Pair}
-use Rattle.pairs.specs.declared.Known.{Known}
-use Rattle.pairs.specs.declared.Known.TheVariants.{Yes, No}
 use Rattle.pairs.specs.Pair.{pair, listed, has}
 use Rattle.pairs.specs.laws.KnownLaws.{none-known, same_known}
-use Rattle.node.specs.declared.Resend.{Resend}
-use Rattle.node.specs.declared.Resend.TheVariants.{Armed, Off}
 use Rattle.node.specs.declared.Phase.{Phase}
 use Rattle.node.specs.declared.Phase.TheVariants.{Down, Starting, Running}
 use Rattle.node.specs.declared.Node.{Node}
@@ -39,30 +33,30 @@ use Rattle.told.specs.laws.First.{first-is}
 
 -- what a phase resends, if anything, is fresh
 abbrev pub ResendsFresh : Dts → Phase → Type 0
-ResendsFresh t p = (T : Dts) → resending p ≡ Armed T → fresh T t ≡ true
+ResendsFresh t p = (T : Dts) → resending p ≡ Some T → fresh T t ≡ true
 
 -- and a command, if there is one
-abbrev IsFresh : Dts → Known → Type 0
-IsFresh t k = (c : Pair) → k ≡ Yes c → fresh c.stamp t ≡ true
+abbrev IsFresh : Dts → Option Pair → Type 0
+IsFresh t k = (c : Pair) → k ≡ Some c → fresh c.stamp t ≡ true
 
-armed-as : (T U : Dts) → Armed T ≡ Armed U → T ≡ U
+armed-as : (T U : Dts) → Some T ≡ Some U → T ≡ U
 armed-as T U e = ap stamp_or e
   where
-    stamp_or : Resend → Dts
-    stamp_or (Armed W) = W
-    stamp_or Off = U
+    stamp_or : Option Dts → Dts
+    stamp_or (Some W) = W
+    stamp_or None = U
 
-off-armed : {C : Type 0} (T : Dts) → Off ≡ Armed T → C
+off-armed : {C : Type 0} (T : Dts) → None ≡ Some T → C
 off-armed T e = absurd (false≢true (ap is_armed e))
   where
-    is_armed : Resend → Bool
-    is_armed (Armed U) = true
-    is_armed Off = false
+    is_armed : Option Dts → Bool
+    is_armed (Some U) = true
+    is_armed None = false
 
 -- ---- the combining rule
 
 module _ (store : Store) (f : ℕ) (t : Dts) (at : store.clock ≡ t) where
-  found-fresh : (A : ℕ) (above T : Dts) → earliest store A above f ≡ Stamp T → fresh T t ≡ true
+  found-fresh : (A : ℕ) (above T : Dts) → earliest store A above f ≡ Some T → fresh T t ≡ true
   unfolding earliest
   found-fresh A above T e = subst (λ (c : Dts). fresh T c ≡ true) at (first-is store.clock (qualifies store A above f) T e).is-fresh
 
@@ -72,11 +66,11 @@ module _ (store : Store) (f : ℕ) (t : Dts) (at : store.clock ≡ t) where
   rule-fresh (Starting l) c = λ e. absurd (none-known e)
   rule-fresh (Running rec) c = go (attempts rec.r rec.b) (earliest store rec.r.status rec.b.stamp f) refl
     where
-      go : (x : Bool) (e : Earliest) → earliest store rec.r.status rec.b.stamp f ≡ e → (cond x (commanding rec e) (record { rec = rec; command = No })).command ≡ Yes c
+      go : (x : Bool) (e : Option Dts) → earliest store rec.r.status rec.b.stamp f ≡ e → (cond x (commanding rec e) (record { rec = rec; command = None })).command ≡ Some c
           → fresh c.stamp t ≡ true
       go false e found is = absurd (none-known is)
-      go true Nothing found is = absurd (none-known is)
-      go true (Stamp T) found is =
+      go true None found is = absurd (none-known is)
+      go true (Some T) found is =
           subst (λ (q : Pair). fresh q.stamp t ≡ true) (same_known (pair rec.r.status T) c is) (found-fresh rec.r.status rec.b.stamp T found)
 
   -- what it arms is what it sends
@@ -86,22 +80,22 @@ module _ (store : Store) (f : ℕ) (t : Dts) (at : store.clock ≡ t) where
   ended-fresh (Starting l) so T = off-armed T
   ended-fresh (Running rec) so T = go (attempts rec.r rec.b) (earliest store rec.r.status rec.b.stamp f) refl
     where
-      go : (x : Bool) (e : Earliest) → earliest store rec.r.status rec.b.stamp f ≡ e
-          → resending (Running (cond x (commanding rec e) (record { rec = rec; command = No })).rec) ≡ Armed T → fresh T t ≡ true
+      go : (x : Bool) (e : Option Dts) → earliest store rec.r.status rec.b.stamp f ≡ e
+          → resending (Running (cond x (commanding rec e) (record { rec = rec; command = None })).rec) ≡ Some T → fresh T t ≡ true
       go false e found is = so T is
-      go true Nothing found is = so T is
-      go true (Stamp U) found is = subst (λ (W : Dts). fresh W t ≡ true) (armed-as U T is) (found-fresh rec.r.status rec.b.stamp U found)
+      go true None found is = so T is
+      go true (Some U) found is = subst (λ (W : Dts). fresh W t ≡ true) (armed-as U T is) (found-fresh rec.r.status rec.b.stamp U found)
 
 -- ---- a command that is sent again
 
-again-fresh : (t : Dts) (resend : Resend) (b : Known) → IsFresh t (again_of t resend b)
-again-fresh t (Armed T) (Yes p) c = go (fresh T t) refl
+again-fresh : (t : Dts) (resend : Option Dts) (b : Option Pair) → IsFresh t (again_of t resend b)
+again-fresh t (Some T) (Some p) c = go (fresh T t) refl
   where
-    go : (x : Bool) → fresh T t ≡ x → cond x (Yes (pair p.status T)) No ≡ Yes c → fresh c.stamp t ≡ true
+    go : (x : Bool) → fresh T t ≡ x → cond x (Some (pair p.status T)) None ≡ Some c → fresh c.stamp t ≡ true
     go true e is = subst (λ (q : Pair). fresh q.stamp t ≡ true) (same_known (pair p.status T) c is) e
     go false e is = absurd (none-known is)
-again-fresh t (Armed T) No c = λ is. absurd (none-known is)
-again-fresh t Off b c = λ is. absurd (none-known is)
+again-fresh t (Some T) None c = λ is. absurd (none-known is)
+again-fresh t None b c = λ is. absurd (none-known is)
 
 timed-out-fresh : (t : Dts) (p : Phase) → ResendsFresh t (resend_timed_out p t).phase
 unfolding resend_timed_out given_up
@@ -139,7 +133,7 @@ module _ (breaker : Breaker) (node : Node) (i f : ℕ) (t : Dts) (up : not (phas
       own-again : IsFresh t (again_by (said_by event) t (known_in node.phase).resend (known_b node.phase))
       own-again c = go (is_kind (said_by event).kind resend_timeout)
         where
-          go : (x : Bool) → cond x (again_of t (known_in node.phase).resend (known_b node.phase)) No ≡ Yes c → fresh c.stamp t ≡ true
+          go : (x : Bool) → cond x (again_of t (known_in node.phase).resend (known_b node.phase)) None ≡ Some c → fresh c.stamp t ≡ true
           go true e = again-fresh t (known_in node.phase).resend (known_b node.phase) c e
           go false e = absurd (none-known e)
 
@@ -153,9 +147,9 @@ module _ (breaker : Breaker) (node : Node) (i f : ℕ) (t : Dts) (up : not (phas
       first-or true y h f g = f refl
       first-or false y h f g = g h
 
-      both : (x c : Known) → IsFresh t x → IsFresh t c → has (listed (followed x c)) A T ≡ true → fresh T t ≡ true
-      both (Yes p) (Yes q) fp fq h =
+      both : (x c : Option Pair) → IsFresh t x → IsFresh t c → has (listed (followed x c)) A T ≡ true → fresh T t ≡ true
+      both (Some p) (Some q) fp fq h =
           first-or _ _ h (λ e. one p _ (fp p refl) refl e) (λ g. first-or _ _ g (λ e. one q _ (fq q refl) refl e) (λ e. absurd (false≢true e)))
-      both (Yes p) No fp fq h = first-or _ _ h (λ e. one p _ (fp p refl) refl e) (λ e. absurd (false≢true e))
-      both No (Yes q) fp fq h = first-or _ _ h (λ e. one q _ (fq q refl) refl e) (λ e. absurd (false≢true e))
-      both No No fp fq h = absurd (false≢true h)
+      both (Some p) None fp fq h = first-or _ _ h (λ e. one p _ (fp p refl) refl e) (λ e. absurd (false≢true e))
+      both None (Some q) fp fq h = first-or _ _ h (λ e. one q _ (fq q refl) refl e) (λ e. absurd (false≢true e))
+      both None None fp fq h = absurd (false≢true h)

@@ -1,5 +1,6 @@
 -- The combining rule, for who is held: it sends the command of the earliest fresh stamp above b's that is held from at least f + 1 of n nodes.
-use Rattle.std.specs.Prelude.{ℕ, zero, suc, ◌+◌, ◌^◌, ◌≤◌, ◌<◌, ◌≡◌, Bool, ◌&&◌}
+use Rattle.std.specs.Prelude.{ℕ, zero, suc, ◌+◌, ◌^◌, ◌≤◌, ◌<◌, ◌≡◌, Bool, ◌&&◌, Option, Some, None}
+use Rattle.pairs.specs.declared.Pair.{Pair}
 use Rattle.std.proofs.Math.Path.{refl, ap}
 use Rattle.std.proofs.Common.{ap₂, ◌∙◌, arith, lt-ltb}
 use Rattle.std.proofs.Math.Bool.{true, false, cond}
@@ -13,13 +14,9 @@ use Rattle.senders.specs.laws.Sets.{count-ext, count-above}
 use Rattle.senders.specs.Masks.{size, room}
 use Rattle.tables.specs.Tables.{table}
 use Rattle.store.specs.declared.Store.{Store}
-use Rattle.store.specs.declared.Earliest.{Earliest}
-use Rattle.store.specs.declared.Earliest.TheVariants.{Stamp, Nothing}
 use Rattle.store.specs.Store.{stamps, senders_of}
 use Rattle.store.specs.Held.{held}
 use Rattle.store.specs.Earliest.{dts, fresh_stamp, fresh_stamps, qualifies, first_of, earliest}
-use Rattle.pairs.specs.declared.Known.{Known}
-use Rattle.pairs.specs.declared.Known.TheVariants.{Yes, No}
 use Rattle.pairs.specs.laws.KnownLaws.{is_known}
 use Rattle.node.specs.declared.Record.{Record}
 use Rattle.node.specs.declared.Phase.{Phase}
@@ -35,7 +32,7 @@ first-same : (test other : ℕ → Bool) (m : ℕ) (rule : ℕ → ℕ) → ((i 
 unfolding table
 first-same test other zero rule same = refl
 first-same test other (suc m) rule same =
-    ap₂ (λ (x : Bool) (rest : Earliest). cond x (Stamp (dts (rule zero))) rest) (same zero (omega arith))
+    ap₂ (λ (x : Bool) (rest : Option Dts). cond x (Some (dts (rule zero))) rest) (same zero (omega arith))
     (first-same test other m (λ i. rule (suc i)) (λ i l. same (suc i) (omega (arith, l))))
 
 module _
@@ -64,21 +61,21 @@ module _
         ap (λ (c : Dts). first_of (qualifies store A above f) (fresh_stamps c)) now
         ∙ first-same (qualifies store A above f) (is_enough n f above (heldFrom A)) stamps (fresh_stamp t) (λ i l. tested A above (fresh_stamp t i) (omega (arith, l, not_late)))
 
-    of-running : (rec : Record) → (combined rec store f).command ≡ combined_of n f t heldFrom (Yes rec.r) (Yes rec.b)
+    of-running : (rec : Record) → (combined rec store f).command ≡ combined_of n f t heldFrom (Some rec.r) (Some rec.b)
     unfolding combined
     of-running rec = go (attempts rec.r rec.b) (earliest store rec.r.status rec.b.stamp f) (found rec.r.status rec.b.stamp)
       where
-        go : (x : Bool) (e : Earliest) {s : Earliest} → e ≡ s → (cond x (commanding rec e) (record { rec = rec; command = No })).command ≡ cond x (command_at rec.r.status s) No
+        go : (x : Bool) (e : Option Dts) {s : Option Dts} → e ≡ s → (cond x (commanding rec e) (record { rec = rec; command = None })).command ≡ cond x (command_at rec.r.status s) None
         go false e is = refl
-        go true Nothing is = ap (command_at rec.r.status) is
-        go true (Stamp T) is = ap (command_at rec.r.status) is
+        go true None is = ap (command_at rec.r.status) is
+        go true (Some T) is = ap (command_at rec.r.status) is
 
     pub by-rule : (p : Phase) → RunsOnceKnown p → (ended p store f).command ≡ combined_of n f t heldFrom (known_r p) (known_b p)
     by-rule Down once = refl
     by-rule (Starting l) once = go l.r l.b once
       where
-        go : (r b : Known) → false ≡ (is_known r && is_known b) → No ≡ combined_of n f t heldFrom r b
-        go (Yes r) (Yes b) e = absurd (false≢true e)
-        go (Yes r) No e = refl
-        go No b e = refl
+        go : (r b : Option Pair) → false ≡ (is_known r && is_known b) → None ≡ combined_of n f t heldFrom r b
+        go (Some r) (Some b) e = absurd (false≢true e)
+        go (Some r) None e = refl
+        go None b e = refl
     by-rule (Running rec) once = of-running rec

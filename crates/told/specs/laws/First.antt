@@ -1,12 +1,10 @@
 -- The first of the stamps that are fresh at a clock that passes a test: it is fresh, passes the test, and is the earliest that does.
-use Rattle.std.specs.Prelude.{ℕ, ◌+◌, ◌-◌, ◌≤◌, ◌<◌, ◌≡◌, refl, Bool, true, false, leb, ltb}
+use Rattle.std.specs.Prelude.{ℕ, ◌+◌, ◌-◌, ◌≤◌, ◌<◌, ◌≡◌, refl, Bool, true, false, leb, ltb, Option, None, Some}
 use Rattle.std.proofs.Common.{sym, ap, subst, ◌∙◌, arith, le-leb, leb-true, ltb-true, ltb-false}
 use Rattle.std.proofs.lemmas.Bool.{false≢true}
 use Rattle.refusals.specs.laws.Bools.{left, right}
 use Rattle.time.specs.declared.Dts.{Dts}
 use Rattle.time.specs.Fresh.{window, fresh_at}
-use Rattle.store.specs.declared.Earliest.{Earliest}
-use Rattle.store.specs.declared.Earliest.TheVariants.{Stamp, Nothing}
 use Rattle.store.specs.Store.{stamps}
 use Rattle.store.specs.Earliest.{fresh_stamp, fresh_stamps, first_of}
 use Rattle.store.proofs.laws.EarliestLaws.{search-found, search-nothing}
@@ -24,12 +22,12 @@ module _ (t : Dts) where
 
   module _ (test : ℕ → Bool) where
     -- where one passes, there is a first
-    pub some_first : (T : ℕ) → fresh_at T t.0 ≡ true → test T ≡ true → (U : Dts) × (first_of test (fresh_stamps t) ≡ Stamp U)
+    pub some_first : (T : ℕ) → fresh_at T t.0 ≡ true → test T ≡ true → (U : Dts) × (first_of test (fresh_stamps t) ≡ Some U)
     some_first T is passes = go (first_of test (fresh_stamps t)) refl
       where
-        go : (e : Earliest) → first_of test (fresh_stamps t) ≡ e → (U : Dts) × (first_of test (fresh_stamps t) ≡ Stamp U)
-        go (Stamp U) found = (U, found)
-        go Nothing none =
+        go : (e : Option Dts) → first_of test (fresh_stamps t) ≡ e → (U : Dts) × (first_of test (fresh_stamps t) ≡ Some U)
+        go (Some U) found = (U, found)
+        go None none =
             let at = placed T is in
             absurd (false≢true (sym (search-nothing test stamps (fresh_stamp t) none at.0 at.1) ∙ (ap test at.2 ∙ passes)))
 
@@ -38,7 +36,7 @@ module _ (t : Dts) where
       pub passes : test U.0 ≡ true
       pub earliest : (W : ℕ) → fresh_at W t.0 ≡ true → test W ≡ true → U.0 ≤ W
 
-    pub first-is : (U : Dts) → first_of test (fresh_stamps t) ≡ Stamp U → IsFirst U
+    pub first-is : (U : Dts) → first_of test (fresh_stamps t) ≡ Some U → IsFirst U
     first-is U found =
         let at = search-found test stamps (fresh_stamp t) U found in
         record {

@@ -1,8 +1,12 @@
+use Rattle.std.proofs.lemmas.Result.{err_from_is_err_and}
 use Rattle.stepping.specs.laws.Given.{breaker-refused, breaker-done}
 use Rattle.stepping.proofs.parts.at_breaker.Goals as goal
 
-pub returns-then-refusal-ne0 : goal.returns-then-refusal-ne0
-returns-then-refusal-ne0 c = λ node. breaker-refused _ _ node _ _ _ c.refuse_act-refusal.ensures c.if-refusal-ne0.true
+pub returns-in_err-refuse_act : goal.returns-in_err-refuse_act
+returns-in_err-refuse_act c =
+    let p = err_from_is_err_and c.from_residual.result c.from_residual.ensures.1 in
+    let a = c.args in
+    λ node. rw (p.1, p.2) (breaker-refused a.sound a.site node a.t a.act _ c.in_err-refuse_act.ensures)
 
 pub returns : goal.returns
-returns c = λ node. breaker-done _ _ node _ _ _ c.refuse_act-refusal.ensures c.if-refusal-ne0.false _ c.command-breaker.ensures
+returns c = let a = c.args in λ node. rw c.command.ensures (breaker-done a.sound a.site node a.t a.act c.in_ok-refuse_act.ensures)

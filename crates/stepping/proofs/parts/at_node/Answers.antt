@@ -1,8 +1,12 @@
+use Rattle.std.proofs.lemmas.Result.{err_from_is_err_and}
 use Rattle.stepping.specs.laws.Given.{node-refused, node_done}
 use Rattle.stepping.proofs.parts.at_node.Goals as goal
 
-pub returns-then-refusal-ne0 : goal.returns-then-refusal-ne0
-returns-then-refusal-ne0 c = node-refused _ _ _ _ _ _ _ c.refuse_event-refusal.ensures c.if-refusal-ne0.true
+pub returns-in_err-refuse_event : goal.returns-in_err-refuse_event
+returns-in_err-refuse_event c =
+    let p = err_from_is_err_and c.from_residual.result c.from_residual.ensures.1 in
+    let a = c.args in
+    rw (p.1, p.2) (node-refused a.sound a.site a.node a.i a.t a.event _ c.in_err-refuse_event.ensures)
 
 pub returns : goal.returns
-returns c = node_done _ _ _ _ _ _ _ c.refuse_event-refusal.ensures c.if-refusal-ne0.false _ c.note-noted.ensures
+returns c = let a = c.args in rw c.note.ensures (node_done a.sound a.site a.node a.i a.t a.event c.in_ok-refuse_event.ensures)

@@ -1,27 +1,19 @@
-use Prim.Native.Nat.{◌+◌}
-use mathlib.Core.Path.{sym, ◌∙◌}
-use native.Mathlib.Omega.{arith}
-use lib.ListN.{length}
-use borrow.Author.Tests.{leb-true}
+use Rattle.std.proofs.Common.{sym, ◌∙◌, arith}
 use Rattle.text.specs.Lines.{sent_messages}
 use Rattle.text.specs.Line.{line_with}
-use Rattle.text.specs.laws.LineLaws.{after-head, line-put, line_kept}
+use Rattle.text.specs.laws.LineLaws.{head-room, line-put, line_kept}
 use Rattle.text.proofs.line.put_loud.Goals as goal
-
-pub put_head-space-requires : goal.put_head-space-requires
-put_head-space-requires c =
-    let a = c.args in
-    omega (arith, leb-true (a.at + 256) (length a.out.now) (sym c.has_room.ensures ∙ c.if-has_room.true))
 
 pub put_tail-requires : goal.put_tail-requires
 put_tail-requires c =
     let a = c.args in
-    omega (arith, leb-true (a.at + 256) (length a.out.now) (sym c.has_room.ensures ∙ c.if-has_room.true), after-head _ _ _ _ c.put_head-space.ensures, c.put_head-space.auto.out)
+    omega (arith, head-room a.number 0 a.status a.stamp (sym c.has_room.ensures ∙ c.if-has_room.true) c.put_head.ensures.text)
 
 pub returns-then-has_room : goal.returns-then-has_room
 returns-then-has_room c =
     let a = c.args in
-    line-put a.number 0 a.status a.stamp a.i (sent_messages a.sent) (sym c.has_room.ensures ∙ c.if-has_room.true) c.put_head-space.ensures c.put_tail.ensures
+    let h = line-put a.number 0 a.status a.stamp a.i (sent_messages a.sent) (sym c.has_room.ensures ∙ c.if-has_room.true) c.put_head.ensures.text c.put_tail.ensures.text in
+    grind (arith, h)
 
 pub returns : goal.returns
 returns c =

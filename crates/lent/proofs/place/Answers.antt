@@ -1,4 +1,0 @@
-use Rattle.lent.proofs.place.Goals as goal
-
-pub returns-in-AtNode : goal.returns-in-AtNode
-returns-in-AtNode c = rw c.in-AtNode.is c.index.ensures

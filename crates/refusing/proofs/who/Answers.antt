@@ -1,5 +1,0 @@
-use Rattle.refusals.specs.laws.Tests.{appended}
-use Rattle.refusing.proofs.who.Goals as goal
-
-pub returns : goal.returns
-returns c = simp (appended, c.first-2.ensures, c.first.ensures, c.test-c.ensures, c.test-b.ensures, c.test-a.ensures, c.is_in-compromised.ensures, c.is_node-known.ensures)

@@ -1,5 +1,0 @@
-use Rattle.text.specs.Puts.{then}
-use Rattle.text.proofs.line.put_nothing.Goals as goal
-
-pub returns : goal.returns
-returns c = then c.put_byte-a.ensures (then c.put_byte-b.ensures c.put_byte.ensures)
