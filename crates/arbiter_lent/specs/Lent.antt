@@ -1,5 +1,5 @@
 -- "The table of nodes is lent by the caller, one record for each node; a step changes the record of the node it names and no other. Tick and [a message] change
--- None. Start sets the first n and leaves the rest."
+-- none. Start sets the first n and leaves the rest."
 use Rattle.std.specs.Prelude.{ℕ, ◌≡◌, List, length, get_or, set, Option, None, Some, Ok, Err}
 use Rattle.events.specs.Events.{went_down}
 use Rattle.effects.specs.Effects.{first_record}
@@ -54,7 +54,7 @@ after_done (AtNode i t event) records voter = set records i voter
 after_done (Life i turn) records voter = set records i voter
 after_done (AtBreaker t m) records voter = records
 
--- a refused step changes None
+-- a refused step changes none
 abbrev pub table_after_answer : Answer → Step → List Voter → Voter → List Voter
 table_after_answer (Ok sent) step records voter = after_done step records voter
 table_after_answer (Err refusal) step records voter = records

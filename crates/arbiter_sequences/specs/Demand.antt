@@ -1,4 +1,4 @@
--- "Demand 3 for this variant: Some counted sender was correct, sent that action at one of those stamps, at its own clock equal to it, with that as its relay's last
+-- "Demand 3 for this variant: some counted sender was correct, sent that action at one of those stamps, at its own clock equal to it, with that as its relay's last
 -- accepted report; breaker stamps strictly rise" (§3 of 02); what the breaker holds; and that it changes at once. Counted "from the last accepted start, with a
 -- fixed set of at most f compromised nodes", of "every sequence of steps, each given the site and table the last one left".
 -- `Reached first h m` is such a sequence, from any site and table whatever: h tells its steps and answers, and m is the site and table that it leaves.
@@ -66,7 +66,7 @@ ChangesAtOnceBy b a before (AtBreaker t m) = ChangesAtOnceHere b before a t
 
 -- ---- an accepted change
 
--- "Some counted sender was correct, sent that action at one of those stamps", earlier than the change
+-- "some counted sender was correct, sent that action at one of those stamps", earlier than the change
 abbrev pub SentByACorrectOne : Beginning → Change → Type 0
 SentByACorrectOne b c =
     (i : ℕ) × Correct b i × ((T : Dts) × CountedAt b c.before c.at c.clock i T × Earlier (SentIt i c.action T) c.before)
@@ -107,7 +107,7 @@ module _ (h : List Entry) (m : Moment) (b : Beginning) where
   abbrev pub ChangesAtOnce : Type 0
   ChangesAtOnce = EachStep (λ a before. ChangesAtOnceBy b a before a.step) (accepted h)
 
-  -- None step sends a command.
+  -- No step sends a command.
   abbrev pub SendsNoCommand : Type 0
   SendsNoCommand = EachStep (λ a before. a.sent.commands ≡ Zero) (accepted h)
 

@@ -84,7 +84,7 @@ share_timed_out Down t = unchanged Down
 share_timed_out (Starting l) t = unchanged (Starting l)
 share_timed_out (Running rec) t = record { phase = Running rec; shares = One (pair rec.r.status t); command = None }
 
--- ---- Option Dts timeout: "Sends that command (b's status, that stamp) again." And, with the stamp no longer fresh (§9 of 02): "On a resend timeout when the
+-- ---- Resend timeout: "Sends that command (b's status, that stamp) again." And, with the stamp no longer fresh (§9 of 02): "On a resend timeout when the
 -- stamp is no longer fresh, b returns to that pair, the old command is not sent, resend is disarmed, and the state is read afresh, with 01's combining rule at
 -- the end."
 

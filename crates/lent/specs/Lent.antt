@@ -1,5 +1,5 @@
 -- "The table of nodes is lent by the caller, one record for each node; a step changes the record of the node it names and no other. Tick and
--- Command change None. Start sets the first n and leaves the rest."
+-- Command change none. Start sets the first n and leaves the rest."
 use Rattle.std.specs.Prelude.{ℕ, ◌≡◌, List, ◌++◌, length, get_or, set, take, drop, Option, None, Some, Ok, Err}
 use Rattle.node.specs.declared.Node.{Node}
 use Rattle.events.specs.Events.{went_down}
@@ -36,7 +36,7 @@ after_done (AtNode i t event) records node = set records i node
 after_done (Life i turn) records node = set records i node
 after_done (AtBreaker t act) records node = records
 
--- a refused step changes None: "Every refusal sends nothing and leaves site, table and clocks unchanged."
+-- a refused step changes none: "Every refusal sends nothing and leaves site, table and clocks unchanged."
 abbrev pub table_after_answer : Answer → Step → List Node → Node → List Node
 table_after_answer (Ok sent) step records node = after_done step records node
 table_after_answer (Err refusal) step records node = records

@@ -75,7 +75,7 @@ last_number (Running rec) = rec.number
 abbrev pub is_new : Node → ℕ → Bool
 is_new node number = new_after number (last_number node.phase)
 
--- "Share timeout. Some exactly in Attempt."
+-- "Share timeout. Armed exactly in Attempt."
 abbrev pub phase_attempt : Phase → Bool
 phase_attempt Down = false
 phase_attempt (Starting l) = false
@@ -84,7 +84,7 @@ phase_attempt (Running rec) = attempts rec.r rec.b
 abbrev pub in_attempt : Node → Bool
 in_attempt node = phase_attempt node.phase
 
--- "Option Dts timeout. Some after a command was sent."
+-- "Resend timeout. Armed after a command was sent."
 abbrev resend_armed : Option Dts → Bool
 resend_armed (Some T) = true
 resend_armed None = false

@@ -49,7 +49,7 @@ phase_takes Down kind = among kind (up ∷ [])
 phase_takes (Starting learned) kind = among kind (report ∷ ack ∷ query ∷ down ∷ [])
 phase_takes (Running rec) kind = among kind (report ∷ deliver ∷ deliver_pair ∷ share_timeout ∷ resend_timeout ∷ ack ∷ down ∷ [])
 
--- a node's last accepted clock, 0 where it has None yet
+-- a node's last accepted clock, 0 where it has none yet
 abbrev pub node_clock : Node → Dts
 node_clock node = node.store.clock
 

@@ -153,7 +153,7 @@ knows_then =
 pub told-so : (told_to start 0 happened ≡ knows_then) × (site_clock start happened ≡ 102) × (breaker_pair start happened ≡ pair 0 (stamp 102))
 told-so = (refl, refl, refl)
 
--- None ack came to it. A resend timeout at clock 104 sends the command again; at clock 105 the stamp is no longer fresh, and b returns to what the query said.
+-- No ack came to it. A resend timeout at clock 104 sends the command again; at clock 105 the stamp is no longer fresh, and b returns to what the query said.
 abbrev timed_out : ℕ → Sent → List Accepted
 timed_out t sent = done_with 15 (AtNode 0 (stamp t) ResendTimeout) sent ∷ happened
 

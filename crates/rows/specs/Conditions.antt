@@ -1,5 +1,5 @@
 -- Document 01's table of refusals: the condition of each row, and the order in which the rows are checked.
--- `Of the.clock λ t. C` reads "the step names a clock t, and C", `OneOf` the same of one of Some, `AllOf` of Some and each of them. `×` is "and", `⊎` is "or", `→ ⊥` is "not".
+-- `Of the.clock λ t. C` reads "the step names a clock t, and C", `OneOf` the same of one of some, `AllOf` of some and each of them. `×` is "and", `⊎` is "or", `→ ⊥` is "not".
 use Rattle.std.specs.Prelude.{ℕ, ◌+◌, ◌≤◌, ◌<◌, ◌≡◌, true, false, ◌⊎◌, List, [], ◌∷◌, Option, Some, None}
 use Rattle.time.specs.declared.Dts.{Dts}
 use Rattle.time.specs.Newer.{ahead}
@@ -78,18 +78,18 @@ NoStart None = Unit {0}
 
 -- ---- 9 and 12, of a node's phase
 
--- "a number is new when None is known since start-up, or when number minus last, wrapping at 32 bits, is 1 to 2,147,483,647"
+-- "a number is new when none is known since start-up, or when number minus last, wrapping at 32 bits, is 1 to 2,147,483,647"
 abbrev pub NotNewAfter : ℕ → Option ℕ → Type 0
 NotNewAfter number (Some last) = (ahead number last ≡ 0) ⊎ (2_147_483_647 < ahead number last)
 NotNewAfter number None = ⊥
 
--- "Some exactly in Attempt": the statuses differ, and r's stamp is no older than b's
+-- "Armed exactly in Attempt": the statuses differ, and r's stamp is no older than b's
 abbrev pub NotInAttempt : Phase → Type 0
 NotInAttempt NotUp = Unit {0}
 NotInAttempt (Starting l) = Unit {0}
 NotInAttempt (Running rec) = (rec.r.status ≡ rec.b.status) ⊎ (rec.r.stamp.0 < rec.b.stamp.0)
 
--- "Some after a command was sent": no stamp is being resent
+-- "Armed after a command was sent": no stamp is being resent
 abbrev pub NoStampResent : Phase → Type 0
 NoStampResent NotUp = Unit {0}
 NoStampResent (Starting l) = Unit {0}

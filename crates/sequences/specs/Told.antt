@@ -1,4 +1,4 @@
--- What a site and its nodes are, told by what has happened: by the accepted steps since the last accepted Start and what was sent in them. None field of a site
+-- What a site and its nodes are, told by what has happened: by the accepted steps since the last accepted Start and what was sent in them. No field of a site
 -- or of a record is looked at, and no definition of a step: this is a second text beside those, and that both say the same is a theorem (State.antt). Every
 -- list has the latest first. What one step tells a node stands in crates/told, specs/Telling.antt.
 use Rattle.std.specs.Prelude.{ℕ, zero, suc, ◌+◌, Bool, false, ◌&&◌, cond, List, [], ◌∷◌, ◌++◌, map, ltb, length, get_or, Option, None, Some}
@@ -42,7 +42,7 @@ abbrev pub first_or : Pair → List Pair → Pair
 first_or other [] = other
 first_or other (p ∷ more) = p
 
--- changes with these pairs, the newest first, "of the last eight": how many, and where; a place that None has is blank
+-- changes with these pairs, the newest first, "of the last eight": how many, and where; a place that none has is blank
 abbrev pub up_to_eight : ℕ → ℕ
 up_to_eight count = cond (ltb count most_changes) count most_changes
 
@@ -152,7 +152,7 @@ abbrev pub is_down_told : List Accepted → Bool
 is_down_told [] = false
 is_down_told (a ∷ rest) = down_by a.step (is_down_told rest)
 
--- its last clock in this life, 0 where it has None yet
+-- its last clock in this life, 0 where it has none yet
 abbrev or_none : Option Dts → Dts
 or_none (Some t) = t
 or_none None = record { 0 = 0 }

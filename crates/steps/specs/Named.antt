@@ -65,7 +65,7 @@ named (AtBreaker t act) = record { actor = None; clock = Some t; beginning = Non
 abbrev pub kind_of : Step → StepKind
 kind_of step = (named step).said.kind
 
--- the number of the acting node, and 0 where a step names None
+-- the number of the acting node, and 0 where a step names none
 abbrev pub actor_or0 : Option ℕ → ℕ
 actor_or0 None = 0
 actor_or0 (Some i) = i
@@ -100,7 +100,7 @@ abbrev pub EachOf : {A : Type 0} → List A → (A → Type 0) → Type 0
 EachOf [] P = Unit {0}
 EachOf (a ∷ others) P = P a × EachOf others P
 
--- and it names Some
+-- and it names some
 abbrev pub AllOf : {A : Type 0} → List A → (A → Type 0) → Type 0
 AllOf [] P = ⊥
 AllOf (a ∷ others) P = P a × EachOf others P
@@ -114,7 +114,7 @@ abbrev pub of_each : {A : Type 0} → List A → (A → Bool) → Bool
 of_each [] p = true
 of_each (a ∷ others) p = p a && of_each others p
 
--- passed by one of them; and by a step that names None
+-- passed by one of them; and by a step that names none
 abbrev pub any_of : {A : Type 0} → List A → (A → Bool) → Bool
 any_of [] p = false
 any_of (a ∷ others) p = p a || any_of others p

@@ -1,4 +1,4 @@
--- What an accepted step tells a node, field by field and in the rules' words. None phase, record or store is looked at: a field afterwards is worked out from
+-- What an accepted step tells a node, field by field and in the rules' words. No phase, record or store is looked at: a field afterwards is worked out from
 -- the step and from what was told before. What has happened to a node is told by these, step after step (crates/sequences, Told.antt); that every event
 -- does what they say is a theorem about the events (crates/acting, Exact.antt).
 use Rattle.std.specs.Prelude.{ℕ, ◌+◌, Bool, true, false, not, ◌&&◌, cond, List, [], ◌∷◌, eqb, leb, ltb, Option, Some, None}
@@ -83,8 +83,8 @@ abbrev pub acked_as : Option ℕ → (ℕ → Option Pair) → Option Pair → O
 acked_as (Some back) changeNumber b = later_of b (changeNumber back)
 acked_as None changeNumber b = b
 
--- Query: "b becomes the breaker's status and stamp now." Ack: as above, of the breaker's change number `back`. None other step speaks of the breaker. The second
--- pair is heard of in the same way: "A query sets it, and so does an ack when there is None yet or its stamp is not below the pair's" (§9 of 02)
+-- Query: "b becomes the breaker's status and stamp now." Ack: as above, of the breaker's change number `back`. No other step speaks of the breaker. The second
+-- pair is heard of in the same way: "A query sets it, and so does an ack when there is none yet or its stamp is not below the pair's" (§9 of 02)
 abbrev pub heard_by : Said → (ℕ → Option Pair) → Pair → Option Pair → Option Pair
 heard_by said changeNumber now b = cond (is_kind said.kind query) (Some now) (acked_as said.back changeNumber b)
 
@@ -143,7 +143,7 @@ shares_by said t r b r' =
     (cond (are_known r b && (not (are_attempt r b) && are_attempt r' b)) (two_shares r' t) Zero)
     (cond (is_kind said.kind share_timeout) (one_share r t) Zero)
 
--- Option Dts timeout: "Sends that command (b's status, that stamp) again." With the stamp no longer fresh, "the old command is not sent" (§9 of 02)
+-- Resend timeout: "Sends that command (b's status, that stamp) again." With the stamp no longer fresh, "the old command is not sent" (§9 of 02)
 abbrev pub again_of : Dts → Option Dts → Option Pair → Option Pair
 again_of t (Some T) (Some b) = cond (fresh T t) (Some (pair b.status T)) None
 again_of t (Some T) None = None
@@ -154,7 +154,7 @@ again_by said t resend b = cond (is_kind said.kind resend_timeout) (again_of t r
 
 -- ---- the combining rule
 
--- "Some fresh stamp above b's stamp is held from at least f+1 senders for A": of n nodes, for who holds what
+-- "some fresh stamp above b's stamp is held from at least f+1 senders for A": of n nodes, for who holds what
 abbrev pub is_enough : ℕ → ℕ → Dts → (Dts → ℕ → Bool) → ℕ → Bool
 is_enough n f above heldFrom T = ltb above.0 T && leb (f + 1) (count_below n (heldFrom (dts T)))
 
@@ -172,7 +172,7 @@ combined_of n f t held None b = None
 
 -- ---- a step at a node, to its end
 
--- the last of Some commands
+-- the last of some commands
 abbrev pub last_of : List Pair → Option Pair
 last_of [] = None
 last_of (p ∷ []) = Some p

@@ -134,7 +134,7 @@ module _
         ∙ clock-from (store_at node.phase node.store t) (said_by event).sender (said_by event).status (said_by event).stamps))
         (at-clock node.phase node.store t l)
 
-    -- None stamp and no clock is beyond its limit, and every sender is below n: the node itself, and the one that the event names.
+    -- No stamp and no clock is beyond its limit, and every sender is below n: the node itself, and the one that the event names.
     pub acted-in-range : node_in_range (acted breaker node i f t event).node n ≡ true
     unfolding acted finished
     acted-in-range =

@@ -66,7 +66,7 @@ pub record PhaseLeft (breaker : Breaker) (t : Dts) (event : Event) (p q : Phase)
   pub b : BreakerLeft breaker t event p q
   pub goes : GoesOn p q
 
--- the shares: None, or, if the node runs, the status that r has then, with t alone or with t and with t + 1
+-- the shares: none, or, if the node runs, the status that r has then, with t alone or with t and with t + 1
 pub data SharesLeft (p : Phase) (t : Dts) (left : Changed) : Type 0 where
   no-shares : left.shares ≡ Zero → SharesLeft p t left
   r-shared : (r : Pair) → phase_running p ≡ true → known_r left.phase ≡ Some r

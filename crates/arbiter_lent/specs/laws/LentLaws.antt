@@ -19,7 +19,7 @@ use Rattle.arbiter_site.specs.laws.Accepted.{Passes, start-passes, event-passes,
 use Rattle.arbiter_site.specs.laws.StepLaws.{by_tests}
 use Rattle.arbiter_lent.specs.Lent.{rule, first_records, made_first, record_of, out_of}
 
--- ---- a step that is done names a node of the table, or None
+-- ---- a step that is done names a node of the table, or none
 
 pub named-within : (a : Arbiter) (lent : ℕ) (voter : Voter) (step : Step) → Passes a lent voter step → Within (named step).actor lent
 named-within a lent voter (Start b) e = tt

@@ -97,7 +97,7 @@ voted-in-range breaker voter count t event of-breaker late e =
           (sound-by breaker (phase_in_peer voter.phase) t (Steps.in_peer event) of-breaker (omega (arith, late)) (parts (in_peer voter) count e).of-phase);
     })
 
--- ---- the breaker after a message: what it becomes is what Some command would make of it
+-- ---- the breaker after a message: what it becomes is what some command would make of it
 
 fresh-now : (t : Dts) → fresh t t ≡ true
 fresh-now t = simp (le-leb (t.0 - window) t.0 (omega arith), le-leb t.0 (t.0 + window) (omega arith))
@@ -344,7 +344,7 @@ unfolding table_after
 reached-sound from = λ b q. absurd (no_start q)
 reached-sound (then {h} {m} r step) = still-sound h m.site m.records (reached-keeps r) (reached-sound r) step
 
--- the first test of the table, for every step: a step that names a node from n on, or None, asks for no record
+-- the first test of the table, for every step: a step that names a node from n on, or none, asks for no record
 passes-16 : (a : Arbiter) (records : List Voter) (step : Step) → Sound a records
     → are_sound a (length records) (record_of (named step).actor records) (named step) ≡ true
 unfolding arbiter_sound actor_sound

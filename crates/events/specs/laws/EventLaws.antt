@@ -96,7 +96,7 @@ share-shares Down t = refl
 share-shares (Starting l) t = refl
 share-shares (Running rec) t = refl
 
--- ---- Option Dts timeout: it gives the stamp up where that is armed and no longer fresh, and leaves the phase where not; it shares nothing
+-- ---- Resend timeout: it gives the stamp up where that is armed and no longer fresh, and leaves the phase where not; it shares nothing
 
 abbrev pub stale : Dts → Option Dts → Bool
 stale t (Some T) = not (fresh T t)

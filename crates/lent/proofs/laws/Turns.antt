@@ -13,7 +13,7 @@ use Rattle.loans.specs.laws.LoanLaws.{made-no-more}
 use Rattle.lent.specs.declared.kinds.Turned.{Turned}
 use Rattle.lent.specs.laws.InTurn.{index_of, begun_in, out_in, left_in, Goes, GoesFirst}
 
--- ---- the record of the node that is named, and where None is named that of a node that is down
+-- ---- the record of the node that is named, and where none is named that of a node that is down
 
 module _ {R : Type 0} (down : R) (records : List R) (record_of : Option ℕ → R) (of_none : record_of None ≡ down) (of_some : (i : ℕ) → record_of (Some i) ≡ get_or records i down) where
   -- it is the one that is taken

@@ -16,7 +16,7 @@ use Rattle.lent.specs.Lent.{record_of, out_of, table_after, Said, SaidWithin}
 use Rattle.lent.specs.laws.InTurn.{begins_by}
 use Rattle.steps.specs.Named.{named}
 
--- ---- a step that is done names a node of the table, or None
+-- ---- a step that is done names a node of the table, or none
 
 abbrev pub Within : Option ℕ → ℕ → Type 0
 Within None lent = Unit {0}

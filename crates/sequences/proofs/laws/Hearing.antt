@@ -41,7 +41,7 @@ each_both P Q [] h k = tt
 each_both P Q (a ∷ rest) h k = ((h.0, k.0), each_both P Q rest h.1 k.1)
 
 module _ (p : Pair) where
-  -- the newest, or the Start's pair where there is None, is the latest
+  -- the newest, or the Start's pair where there is none, is the latest
   abbrev newest : List Change → Dts
   newest cs = (first_or p (map pair_of cs)).stamp
 
@@ -77,7 +77,7 @@ at-number T qs back h = go (ltb back most_changes)
     go true = at_place T qs back h
     go false = tt
 
--- a pair is among those that begin with it, and what is among Some is among more
+-- a pair is among those that begin with it, and what is among some is among more
 itself : (p : Pair) (qs : List Pair) → has (p ∷ qs) p.status p.stamp ≡ true
 itself p qs = simp (eq-eqb p.status p.status refl, eq-eqb p.stamp.0 p.stamp.0 refl)
 

@@ -79,9 +79,9 @@ few-held f j rec s own n l fits left attempts-now T above = go (ltb T.0 (2 ^ 32)
         ap (λ (x : Bool). leb (s.clock.0 - window) T.0 && x) (lt-leb T.0 (s.clock.0 + window) (omega (arith, far, late)))
         ∙ and-false (leb (s.clock.0 - window) T.0)
         in
-        let None = count_none n (held s rec.r.status T) (λ i.
+        let none = count_none n (held s rec.r.status T) (λ i.
         fits.holding i rec.r.status T ∙ ap (λ (x : Bool). has (deliveries i j own) rec.r.status T && x) old ∙ and-false (has (deliveries i j own) rec.r.status T)) in
-        omega (arith, None)
+        omega (arith, none)
 
 pub none_left : Always NoneLeft
 none_left first h m r b q j c rec is attempts-now T above =

@@ -193,7 +193,7 @@ pub long-enough : Always LongEnough
 long-enough first h m r b q =
     subst (λ (count : ℕ). count ≤ length m.records) (same-n r b q) (leb-true _ _ (tested m.site (length m.records) (reached-sound r b q).of-site).lends)
 
--- the first test of the table, for every step: a step that names a node from n on, or None, asks for no record
+-- the first test of the table, for every step: a step that names a node from n on, or none, asks for no record
 passes-16 : (site : Site) (records : List Node) (step : Step) → Sound site records
     → are_sound site (length records) (record_of (named step).actor records) (named step) ≡ true
 unfolding actor_sound

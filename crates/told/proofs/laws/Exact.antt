@@ -127,7 +127,7 @@ module _ (breaker : Breaker) (t : Dts) where
       (off-stays (said_by Query) t (change_at breaker) l.r l.b l.r (Some breaker.pair))
   query-knows (Running rec) up = absurd (false≢true up)
 
-  -- a resend timeout, while the stamp is fresh or where None is resent, and with one that is no longer fresh
+  -- a resend timeout, while the stamp is fresh or where none is resent, and with one that is no longer fresh
   resend-stays : (k : Knows) → is_stale k.resend t ≡ false → k ≡ knows_after (said_by ResendTimeout) t (change_at breaker) breaker.pair None k
   resend-stays k e =
       sym (same-knows k)
