@@ -70,8 +70,10 @@ fn end(phase: Phase, store: Store, f: u8) -> Ended
     }
 }
 
-// The store with shares of a sender's.
+// The store with shares of a sender's. Inlined: as a function of its own it is given stores by their place in memory, and a step would copy the site's and the node's
+// once more each, 28 instructions of some 660.
 #[tactic(auto, unfolding(crate::specs::Combining::put_all))]
+#[inline(always)]
 pub fn put_all(store: Store, sender: u8, shares: Pairs) -> Store
     ensures { result ≡ put_all store sender shares }
 {
