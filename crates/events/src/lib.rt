@@ -25,16 +25,19 @@ pub fn unchanged(phase: Phase) -> Changed
 fn join(learned: Learned) -> Phase
     ensures { result ≡ once_known learned }
 {
-    match (learned.r, learned.b) {
-        (Some(r), Some(b)) => Phase::Running(Record {
-            r,
-            b,
-            second: learned.second,
-            number: learned.number,
-            resend: None,
-        }),
-        _ => Phase::Starting(learned),
-    }
+    let Some(r) = learned.r else {
+        return Phase::Starting(learned);
+    };
+    let Some(b) = learned.b else {
+        return Phase::Starting(learned);
+    };
+    Phase::Running(Record {
+        r,
+        b,
+        second: learned.second,
+        number: learned.number,
+        resend: None,
+    })
 }
 
 #[tactic(auto, unfolding(crate::specs::Events::begun))]
