@@ -89,6 +89,8 @@ fn put_large(out: &mut [u8], at: usize, n: u64) -> usize
     put_eight(out, then, low)
 }
 
+// Inlined, so that a line calls `put_small` by itself: a step would take 25 instructions more.
+#[inline(always)]
 fn put_number(out: &mut [u8], at: usize, n: u64) -> usize
     requires { at + 20 ≤ length out.old }
     ensures { Puts out.old at (decimal n) out.new result }
