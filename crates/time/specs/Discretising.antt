@@ -1,9 +1,9 @@
 -- From a clock reading in microseconds to a discretised time stamp.
-use Rattle.std.specs.Prelude.{ℕ, ◌+◌, ◌/◌, ◌&&◌, List, [], ◌∷◌, nat_le, Result, Ok, Err}
+use Rattle.std.specs.Prelude.{ℕ, ◌+◌, ◌/◌, cond, ◌&&◌, List, [], ◌∷◌, nat_le, Result, Ok, Err}
 use Rattle.refusals.specs.declared.Refusal.{Refusal}
 use Rattle.refusals.specs.declared.Refusal.TheVariants.{BadStart, LastClock}
 use Rattle.refusals.specs.Numbers.{number}
-use Rattle.refusals.specs.Tests.{Test, refusal, giving}
+use Rattle.refusals.specs.Tests.{Test, refusal, number_in, giving, passed}
 use Rattle.time.specs.declared.Dts.{Dts}
 use Rattle.time.specs.declared.Micros.{Micros}
 use Rattle.time.specs.declared.Rounding.{Rounding}
@@ -46,14 +46,23 @@ discretised_by rounding reading interval =
 abbrev pub discretised : Micros → Micros → Result Dts Refusal
 discretised = discretised_by Down
 
--- 01's answer to a reading, a number and a stamp: "A refused discretising gives stamp 0"
+-- 01's answer to a reading, a number and a stamp
 pub record Discretised : Type 0 where
   pub refusal : ℕ
   pub stamp : Dts
 
+-- "A refused discretising gives stamp 0"
 abbrev pub refused_reading : ℕ → Discretised
 refused_reading number = record { refusal = number; stamp = record { 0 = 0 } }
 
 abbrev pub in_numbers : Result Dts Refusal → Discretised
 in_numbers (Ok stamp) = record { refusal = 0; stamp = stamp }
 in_numbers (Err refusal) = refused_reading (number refusal)
+
+-- what discretising gives, in 01's numbers
+unfoldable pub discretised_numbers : Rounding → Micros → Micros → Discretised
+discretised_numbers rounding reading interval =
+    record {
+      refusal = number_in (refusal (discretising_tests rounding reading interval));
+      stamp = record { 0 = cond (passed (discretising_tests rounding reading interval)) (whole_part rounding reading interval) 0 };
+    }

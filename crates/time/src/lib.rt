@@ -2,7 +2,7 @@
 #![tactic(auto)]
 
 ghost use Rattle.std.specs.Prelude.{◌≡◌};
-ghost use Rattle.time.specs.Discretising.{added, discretised_by, discretised, default_interval, in_numbers};
+ghost use Rattle.time.specs.Discretising.{added, discretised_by, discretised, default_interval, in_numbers, discretised_numbers};
 ghost use Rattle.time.specs.Fresh.{fresh, next};
 ghost use Rattle.time.specs.Larger.{larger};
 ghost use Rattle.time.specs.Newer.{newer};
@@ -53,7 +53,8 @@ fn added(rounding: Rounding, width: u64) -> u64
 
 // A reading with what is added may have more than 64 bits: it is divided first, and the remainder is rounded.
 pub fn discretise_by(rounding: Rounding, reading: Micros, interval: Micros) -> Result<Dts, Refusal>
-    ensures { result ≡ discretised_by rounding reading interval }
+    ensures answer { result ≡ discretised_by rounding reading interval }
+    ensures numbers { in_numbers result ≡ discretised_numbers rounding reading interval }
 {
     let width = interval.0;
     if width < SHORTEST_INTERVAL {
@@ -73,14 +74,16 @@ pub fn discretise_by(rounding: Rounding, reading: Micros, interval: Micros) -> R
 
 // For whoever names no rounding: down.
 pub fn discretise(reading: Micros, interval: Micros) -> Result<Dts, Refusal>
-    ensures { result ≡ discretised reading interval }
+    ensures answer { result ≡ discretised reading interval }
+    ensures numbers { in_numbers result ≡ discretised_numbers Rounding.Down reading interval }
 {
     discretise_by(Rounding::Down, reading, interval)
 }
 
 // For whoever names no interval either.
 pub fn discretise_by_default(reading: Micros) -> Result<Dts, Refusal>
-    ensures { result ≡ discretised reading default_interval }
+    ensures answer { result ≡ discretised reading default_interval }
+    ensures numbers { in_numbers result ≡ discretised_numbers Rounding.Down reading default_interval }
 {
     discretise(reading, Micros(DEFAULT_INTERVAL))
 }
