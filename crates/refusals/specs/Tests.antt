@@ -8,7 +8,7 @@ use Rattle.refusals.specs.Numbers.{number}
 abbrev pub Test : Type 0
 Test = Refusal × Bool
 
-unfoldable pub refusal : List Test → Result (Unit {0}) Refusal
+unfoldable pub refusal : {R : Type 0} → List (R × Bool) → Result (Unit {0}) R
 refusal [] = Ok tt
 refusal (t ∷ ts) = cond t.1 (refusal ts) (Err t.0)
 

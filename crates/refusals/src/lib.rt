@@ -69,7 +69,7 @@ impl Refusal {
 }
 
 // One test and the refusal that is given where it fails.
-pub fn test(refusal: Refusal, passed: bool) -> Result<(), Refusal>
+pub fn test<R: Copy>(refusal: R, passed: bool) -> Result<(), R>
     ensures { result ≡ refusal_of ((refusal, passed) ∷ []) }
 {
     if passed { Ok(()) } else { Err(refusal) }
