@@ -87,6 +87,12 @@ pub all-together : (n : ℕ) (masks : List ℕ) (held : ℕ) → within (fold to
 all-together n [] held = simp and-true
 all-together n (mask ∷ masks) held = all-together n masks (together held mask) ∙ simp (together-within, and_assoc)
 
+-- and so it is of ten sets in two halves
+pub ten-together : (n a b c d e a' b' c' d' e' : ℕ)
+    → within (together (together (together (together (together a b) c) d) e) (together (together (together (together a' b') c') d') e')) n
+    ≡ all_within (a ∷ b ∷ c ∷ d ∷ e ∷ a' ∷ b' ∷ c' ∷ d' ∷ e' ∷ []) n
+ten-together n a b c d e a' b' c' d' e' = simp (together-within, and_assoc, and-true)
+
 -- the sets at the ten places too
 pub places-within : (s : Store) (n : ℕ) → length s.masks ≡ places → within (fold together 0 s.masks) n ≡ store_within s n
 unfolding store_within
