@@ -23,6 +23,9 @@ puts-nothing l at = record { bytes = refl; place = omega arith }
 pub length-pair : (p : Pair) → length (pair_text p) ≤ 22
 length-pair p = omega (arith, length-decimal p.stamp.0)
 
+pub length-headed : (x y : ℕ) (p : Pair) → length (x ∷ y ∷ pair_text p) ≤ 24
+length-headed x y p = omega (arith, length-pair p)
+
 pub node-short : (of : Option ℕ) → length (node_text of) ≤ node_room of
 node-short None = omega arith
 node-short (Some i) = length-decimal i
