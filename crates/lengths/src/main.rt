@@ -1,17 +1,28 @@
 // Tables of exactly n records, of one less, of none, of more than n, and of more than any n asks for: for each what is answered, and how many records were
-// set. They are lent from an array of sixteen.
+// set. They are lent to `lent::step` itself, from an array of sixteen.
 #![tactic(auto)]
 
-use lent::kinds::{Whole, step_first};
-use loans::Peers;
+ghost use Rattle.std.specs.Prelude.{replicate};
+ghost use Rattle.events.specs.Events.{went_down};
+ghost use Rattle.lent.specs.Lent.{SaidWithin};
+
+use lent::kinds::Whole;
 use node::Node;
 use site::{Site, number_of};
 use steps::{Beginning, Step};
 use time::Dts;
 
 // A step with so many records of nodes that are down; above sixteen there are no more.
-fn step_with(site: Site, count: usize, step: Step) -> Whole<Site, Node, 16> {
-    step_first::<Peers, 16>(site, [events::down(); 16], count, step)
+fn step_with(site: Site, count: usize, step: Step) -> Whole<Site, Node, 16>
+    ensures { SaidWithin site (replicate 16 went_down) count step result.answer result.site result.nodes }
+{
+    let mut nodes = [events::down(); 16];
+    let told = lent::step(site, &mut nodes[..count.min(16)], step);
+    Whole {
+        answer: told.answer,
+        site: told.site,
+        nodes,
+    }
 }
 
 // A record that was down and is not any more was set.
