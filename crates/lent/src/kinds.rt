@@ -89,15 +89,21 @@ fn act<K: Kind>(site: K::Site, nodes: &mut [K::Record], i: usize, step: K::Step)
     }
 }
 
-// A step of a site with its table. A refused step, a Tick and what is said to the breaker leave every record as it was.
+// A step of a site with its table. A refused step, a Tick and what is said to the breaker leave every record as it was. Where no record is to be made, it ends
+// before the table is lent a second time.
 pub fn step<K: Kind>(site: K::Site, nodes: &mut [K::Record], step: K::Step) -> Told<K::Site>
     ensures { Goes K.named K.stepped K.when_down K.rule site nodes.old step result.answer result.site nodes.new }
 {
     let i = place::<K>(step, nodes.len());
     let told = act::<K>(site, nodes, i, step);
-    if let Some(b) = K::beginning(step) {
-        loans::fill::<K>(nodes, begins(told.answer, b), b.compromised);
+    let Some(b) = K::beginning(step) else {
+        return told;
+    };
+    let n = begins(told.answer, b);
+    if n == 0 {
+        return told;
     }
+    loans::fill::<K>(nodes, n, b.compromised);
     told
 }
 

@@ -58,15 +58,25 @@ pub fn step(site: Site, nodes: &mut [Node], step: Step) -> Told
 }
 
 // The step with the table by value: whoever calls this holds no reference to it.
-pub fn step_in(site: Site, nodes: [Node; 12], step: Step) -> Whole
+pub fn step_in(site: Site, mut nodes: [Node; 12], step: Step) -> Whole
     ensures { Said site nodes step result.answer result.site result.nodes }
 {
-    kinds::step_first::<Peers, 12>(site, nodes, 12, step)
+    let told = crate::step(site, &mut nodes, step);
+    Whole {
+        answer: told.answer,
+        site: told.site,
+        nodes,
+    }
 }
 
 // The same with a table of the first `count` records alone, which may be fewer than n; above twelve there are no more.
-pub fn step_within(site: Site, nodes: [Node; 12], count: usize, step: Step) -> Whole
+pub fn step_within(site: Site, mut nodes: [Node; 12], count: usize, step: Step) -> Whole
     ensures { SaidWithin site nodes count step result.answer result.site result.nodes }
 {
-    kinds::step_first::<Peers, 12>(site, nodes, count, step)
+    let told = crate::step(site, &mut nodes[..count.min(12)], step);
+    Whole {
+        answer: told.answer,
+        site: told.site,
+        nodes,
+    }
 }

@@ -33,11 +33,11 @@ after-done (Ok sent) h (AtBreaker t m) records voter room = set_out records (len
 after-done (Err refusal) h step records voter room = absurd (false≢true h)
 
 module _ (a : Arbiter) (records : List Voter) (step : Step) where
-  out-at-place : stepped a (length records) (get_or records (index_of (named step).actor (length records)) down_voter) step ≡ out_of a records step
+  pub out-at-place : stepped a (length records) (get_or records (index_of (named step).actor (length records)) down_voter) step ≡ out_of a records step
   unfolding out_of
   out-at-place = ap (λ (voter : Voter). stepped a (length records) voter step) (taken down_voter records (λ i. record_of i records) refl (λ i. refl) (named step).actor)
 
-  made-and-written :
+  pub made-and-written :
       begun_in rule (out_of a records step).answer (named step).beginning (set records (index_of (named step).actor (length records)) (out_of a records step).node)
       ≡ table_after a records step
   unfolding out_of table_after

@@ -34,11 +34,11 @@ after-done (Ok sent) h (AtBreaker t act) records node room = set_out records (le
 after-done (Err refusal) h step records node room = absurd (false≢true h)
 
 module _ (site : Site) (records : List Node) (step : Step) where
-  out-at-place : stepped site (length records) (get_or records (index_of (named step).actor (length records)) went_down) step ≡ out_of site records step
+  pub out-at-place : stepped site (length records) (get_or records (index_of (named step).actor (length records)) went_down) step ≡ out_of site records step
   unfolding out_of
   out-at-place = ap (λ (node : Node). stepped site (length records) node step) (taken went_down records (λ i. record_of i records) refl (λ i. refl) (named step).actor)
 
-  made-and-written :
+  pub made-and-written :
       begun_in first_record (out_of site records step).answer (named step).beginning (set records (index_of (named step).actor (length records)) (out_of site records step).node)
       ≡ table_after site records step
   unfolding out_of table_after
