@@ -5,11 +5,14 @@ use Rattle.refusals.specs.declared.Refusal.{Refusal}
 use Rattle.refusals.specs.laws.Settled.{settled, Settles}
 use Rattle.node.specs.declared.Node.{Node}
 use Rattle.events.specs.Events.{went_down}
+use Rattle.steps.specs.Named.{Named}
 use Rattle.steps.specs.declared.Step.{Step}
 use Rattle.site.specs.declared.Site.{Site}
 use Rattle.site.specs.Answers.{Answer}
 use Rattle.loans.specs.Loans.{made_first}
+use Rattle.lent.specs.declared.kinds.Turned.{Turned}
 use Rattle.lent.specs.Lent.{Said, SaidWithin}
+use Rattle.lent.specs.laws.InTurn.{Goes, GoesFirst}
 use Rattle.writer.specs.Writing.{written, bytes_after}
 use Rattle.text.specs.Lines.{line_bytes, line_next}
 use Rattle.turns.specs.declared.Run.{Run}
@@ -35,6 +38,16 @@ step-settled site records step x y p q = λ k. (settled p.0 q.0 k, (settled p.1.
 pub within-settled : (site : Site) (records : List Node) (count : ℕ) (step : Step)
     → Settles λ (o : Answer × (Site × List Node)). SaidWithin site records count step o.0 o.1.0 o.1.1
 within-settled site records count step x y p q = λ k. (settled p.0 q.0 k, (settled p.1.0 q.1.0 k, settled p.1.1 q.1.1 k))
+
+-- ---- the same for any kind of site: `lent::kinds::step`, and with the first records alone `step_first`
+
+module _ {S R T : Type 0} (named : T → Named) (stepped : S → ℕ → R → T → Turned S R) (down : R) (rule : ℕ → ℕ → R) where
+  pub kind-settled : (site : S) (records : List R) (step : T) → Settles λ (o : Answer × (S × List R)). Goes named stepped down rule site records step o.0 o.1.0 o.1.1
+  kind-settled site records step x y p q = λ k. (settled p.0 q.0 k, (settled p.1.0 q.1.0 k, settled p.1.1 q.1.1 k))
+
+  pub first-settled : (site : S) (records : List R) (count : ℕ) (step : T)
+      → Settles λ (o : Answer × (S × List R)). GoesFirst named stepped down rule site records count step o.0 o.1.0 o.1.1
+  first-settled site records count step x y p q = λ k. (settled p.0 q.0 k, (settled p.1.0 q.1.0 k, settled p.1.1 q.1.1 k))
 
 -- ---- bytes: `writer::write`, `text::line::put_quiet` and `put_loud`, each with its text, `run::run_block`
 
