@@ -1,6 +1,8 @@
 // Reads calls of an Arbiter site on standard input and prints a line a call. All the work is in `arbiter_calls`: here bytes are moved, a call at a time.
 #![tactic(auto)]
 
+mod streams;
+
 ghost use Rattle.std.specs.Prelude.{◌≤◌, ◌≡◌, true, length, take};
 ghost use Rattle.text.specs.Lines.{longest_line};
 ghost use Rattle.arbiter_calls.specs.Calls.{read_as};
