@@ -23,14 +23,14 @@ giving (Ok done) a = Ok a
 giving (Err refusal) a = Err refusal
 
 -- every test is passed
-unfoldable pub passed : List Test → Bool
+unfoldable pub passed : {R : Type 0} → List (R × Bool) → Bool
 passed [] = true
 passed (t ∷ ts) = t.1 && passed ts
 
 -- the refusal of some tests, with others after them
-unfoldable pub or_later : Result (Unit {0}) Refusal → Result (Unit {0}) Refusal → Result (Unit {0}) Refusal
+unfoldable pub or_later : {R : Type 0} → Result (Unit {0}) R → Result (Unit {0}) R → Result (Unit {0}) R
 or_later (Ok done) later = later
-or_later (Err refusal) later = Err refusal
+or_later (Err fault) later = Err fault
 
 -- the test with a number, the first that has it
 abbrev pub test_at : ℕ → List Test → Bool

@@ -33,7 +33,7 @@ done-ok (Ok tt) e = refl
 done-ok (Err refusal) e = absurd (omega (arith, numbered refusal, e))
 
 -- Every test is passed exactly where there is no refusal.
-pub passed-done : (ts : List Test) → passed ts ≡ true → refusal ts ≡ Ok tt
+pub passed-done : {R : Type 0} (ts : List (R × Bool)) → passed ts ≡ true → refusal ts ≡ Ok tt
 unfolding refusal passed
 passed-done [] e = refl
 passed-done (t ∷ ts) e = go t.1 e (passed-done ts)
@@ -42,7 +42,7 @@ passed-done (t ∷ ts) e = go t.1 e (passed-done ts)
     go true e ih = ih e
     go false e ih = absurd (false≢true e)
 
-pub done-passed : (ts : List Test) → refusal ts ≡ Ok tt → passed ts ≡ true
+pub done-passed : {R : Type 0} (ts : List (R × Bool)) → refusal ts ≡ Ok tt → passed ts ≡ true
 unfolding refusal passed
 done-passed [] e = refl
 done-passed (t ∷ ts) e = go t.1 e (done-passed ts)
@@ -67,7 +67,7 @@ each-passed k ts e = within ts (done-passed ts e)
         one false here later = later
 
 -- Two lists of tests, one after the other: the refusal of the first, or where that is passed, of the second.
-pub appended : (ts us : List Test) → or_later (refusal ts) (refusal us) ≡ refusal (ts ++ us)
+pub appended : {R : Type 0} (ts us : List (R × Bool)) → or_later (refusal ts) (refusal us) ≡ refusal (ts ++ us)
 unfolding refusal or_later
 appended [] us = refl
 appended (t ∷ ts) us = go t.1 (appended ts us)
@@ -77,16 +77,16 @@ appended (t ∷ ts) us = go t.1 (appended ts us)
     go true ih = ih
     go false ih = refl
 
-pub fails : (ts us : List Test) {fault : Refusal} → refusal ts ≡ Err fault → refusal (ts ++ us) ≡ Err fault
+pub fails : {R : Type 0} (ts us : List (R × Bool)) {fault : R} → refusal ts ≡ Err fault → refusal (ts ++ us) ≡ Err fault
 unfolding or_later
-fails ts us e = sym (appended ts us) ∙ ap (λ (answer : Result (Unit {0}) Refusal). or_later answer (refusal us)) e
+fails {R} ts us e = sym (appended ts us) ∙ ap (λ (answer : Result (Unit {0}) R). or_later answer (refusal us)) e
 
-pub goes_on : (ts us : List Test) {done : Unit {0}} → refusal ts ≡ Ok done → refusal (ts ++ us) ≡ refusal us
+pub goes_on : {R : Type 0} (ts us : List (R × Bool)) {done : Unit {0}} → refusal ts ≡ Ok done → refusal (ts ++ us) ≡ refusal us
 unfolding or_later
-goes_on ts us e = sym (appended ts us) ∙ ap (λ (answer : Result (Unit {0}) Refusal). or_later answer (refusal us)) e
+goes_on {R} ts us e = sym (appended ts us) ∙ ap (λ (answer : Result (Unit {0}) R). or_later answer (refusal us)) e
 
 -- Two tests with one refusal are one test.
-pub one_number : (fault : Refusal) (a b : Bool) (ts : List Test) → refusal ((fault, a) ∷ (fault, b) ∷ ts) ≡ refusal ((fault, a && b) ∷ ts)
+pub one_number : {R : Type 0} (fault : R) (a b : Bool) (ts : List (R × Bool)) → refusal ((fault, a) ∷ (fault, b) ∷ ts) ≡ refusal ((fault, a && b) ∷ ts)
 unfolding refusal
 one_number fault true b ts = refl
 one_number fault false b ts = refl
